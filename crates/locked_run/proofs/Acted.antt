@@ -1,8 +1,8 @@
 -- What a step of what is locked leaves.
-use Rattle.std.proofs.Common.{Err, IfOk, List, MatchOption, Ok, OnErr, Result, None, Option, Some, [], ap, arith, cond, false, length, subst, sym, true, ℕ, ◌<◌, ◌==◌, ◌∙◌, ◌∷◌, ◌≡◌, ◌&&◌, is_some}
+use Rattle.std.proofs.Common.{Err, IfOk, List, MatchOption, Ok, OnErr, Result, None, Option, Some, [], ap, ap₂, arith, cond, false, length, subst, sym, true, ℕ, ◌<◌, ◌≤◌, ◌==◌, ◌∙◌, ◌∷◌, ◌≡◌, ◌&&◌, is_some}
 use Rattle.std.proofs.lemmas.Bool.{or_left, or_right}
 use Rattle.one_run.specs.declared.piece.Piece.{Piece}
-use Rattle.one_run.specs.Pieces.{AllFit, count, seen_of, witness, with_less, with_seen}
+use Rattle.one_run.specs.Pieces.{AllFit, count, owner, seen_of, with_less, with_seen}
 use Rattle.one_run.specs.Rules.{Adds, first_of, others_of}
 use Rattle.stable_store.specs.Calls.{View}
 use Rattle.run_model.specs.declared.answer.Answer.{Answer}
@@ -79,8 +79,13 @@ module _ (opening : Opening) (step : Step) (answer : Answer) {v w : List (Piece 
     moved = record { past = event_of step answer ∷ adds.past; is = ap others_of adds.seen };
   }
 
-  pub first_is_witness : first_of w ≡ witness (seen_of w) ∷ []
-  first_is_witness = ap first_of adds.seen ∙ ap (λ l. witness l ∷ []) (sym seen_now)
+  pub first_owns : first_of w ≡ owner number (seen_of w) ∷ []
+  first_owns =
+      let same : length (event_of step answer ∷ adds.past) ≡ number = sym adds.number in
+      ap first_of adds.seen ∙ ap₂ (λ (n : ℕ) (l : List Event). owner n l ∷ []) same (sym seen_now)
+
+  pub first_number : 1 ≤ number
+  first_number = let is = adds.number in omega arith
 
   pub run_now : IsRun opening (seen_of w)
   run_now = subst (λ l. IsRun opening l) (sym seen_now) adds.run

@@ -1,5 +1,5 @@
 -- The beginning of a run: each guardian with the part of its number.
-use Rattle.std.proofs.Common.{List, Some, [], ap, ap₂, arith, length, refl, suc, zero, ℕ, ◌++◌, ◌+◌, ◌-◌, ◌<◌, ◌≤◌, ◌∙◌, ◌∷◌, ◌≡◌}
+use Rattle.std.proofs.Common.{List, None, Some, false, [], ap, ap₂, arith, length, refl, suc, zero, ℕ, ◌++◌, ◌+◌, ◌-◌, ◌<◌, ◌≤◌, ◌∙◌, ◌∷◌, ◌≡◌}
 use Rattle.atomic_table.specs.Seated.{TableId}
 use Rattle.one_run.specs.declared.piece.Piece.{Piece}
 use Rattle.one_run.specs.declared.run.Part.{Part}
@@ -14,18 +14,18 @@ use Rattle.locked_run.specs.Beginning.{held_first, held_from, stamps}
 use Rattle.locked_run.specs.Parts.{IsHeld, guardian_part, number_of, registry_part}
 
 -- the first place, and the others
-cut : (p n : ℕ) → 0 < n → places_from {E = Event} p n ≡ record { place = Some p; left = stamps; seen = [] } ∷ places_from (suc p) (n - 1)
+cut : (p n : ℕ) → 0 < n → places_from {E = Event} p n ≡ record { place = Some p; left = stamps; seen = []; event = None; owns = false } ∷ places_from (suc p) (n - 1)
 cut p zero h = absurd (omega arith)
-cut p (suc n) h = ap (λ m. record { place = Some p; left = stamps; seen = [] } ∷ places_from {E = Event} (suc p) m) (omega arith)
+cut p (suc n) h = ap (λ m. record { place = Some p; left = stamps; seen = []; event = None; owns = false } ∷ places_from {E = Event} (suc p) m) (omega arith)
 
 module _ (k n : ℕ) (v : List (Piece Event)) (is : v ≡ places_from (k + 2) (n - k)) (lt : k < n) where
-  whole : v ≡ record { place = Some (k + 2); left = stamps; seen = [] } ∷ places_from (suc (k + 2)) ((n - k) - 1)
+  whole : v ≡ record { place = Some (k + 2); left = stamps; seen = []; event = None; owns = false } ∷ places_from (suc (k + 2)) ((n - k) - 1)
   whole = is ∙ cut (k + 2) (n - k) (omega arith)
 
   pub first_place : first_of v ≡ guardian_part (k + 1) stamps [] ∷ []
   first_place =
       let same : k + 2 ≡ suc (k + 1) = omega arith in
-      ap first_of whole ∙ ap (λ p. record { place = Some p; left = stamps; seen = [] } ∷ []) same
+      ap first_of whole ∙ ap (λ p. record { place = Some p; left = stamps; seen = []; event = None; owns = false } ∷ []) same
 
   pub other_places : others_of v ≡ places_from (k + 1 + 2) (n - (k + 1))
   other_places =

@@ -134,7 +134,7 @@ seen_run opening p v is run = subst (λ l. IsRun opening l) (sym (ap seen_of is)
 
 -- nothing touched the part until it looked
 pub looked_since : {opening : Opening} {earlier past : List Event} {place : Option ℕ} {left : ℕ} (v w : List (Piece Event))
-    → v ≡ record { place = place; left = left; seen = past } ∷ [] → LooksBehind opening earlier v w → GoesOn touches place (seen_of v) (seen_of w)
+    → v ≡ record { place = place; left = left; seen = past; event = None; owns = false } ∷ [] → LooksBehind opening earlier v w → GoesOn touches place (seen_of v) (seen_of w)
 looked_since {past = past} {place = place} v w is looks =
     let still : GoesOn touches place past looks.past = (subst (λ u. AllFit touches looks.past u) is looks.fits).0 in
     let now : seen_of w ≡ looks.past = ap seen_of (looks.seen ∙ ap (λ u. with_seen looks.past u) is) in

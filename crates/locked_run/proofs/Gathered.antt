@@ -1,8 +1,8 @@
 -- What is known when all have given up their parts.
-use Rattle.std.proofs.Common.{List, None, Option, Some, [], ap, arith, cond, length, map, refl, slice_get, subst, sym, suc, zero, ℕ, ◌+◌, ◌-◌, ◌<◌, ◌≤◌, ◌==◌, ◌∙◌, ◌∷◌, ◌≡◌}
+use Rattle.std.proofs.Common.{List, None, Option, Some, [], ap, arith, cond, length, map, refl, slice_get, subst, sym, suc, zero, ℕ, ◌+◌, ◌-◌, ◌<◌, ◌≤◌, ◌==◌, ◌∙◌, ◌∷◌, ◌≡◌, ◌≢◌}
 use Rattle.std.specs.List.{AllZip}
-use Rattle.std.specs.List.Sorted.{IsNonDecreasingBy, IsPermutation}
-use Rattle.std.proofs.lemmas.List.Sorted.{IsPermutation-sym, IsPermutation-trans}
+use Rattle.std.specs.List.Sorted.{IsNonDecreasingBy}
+use Rattle.std.proofs.lemmas.List.Sorted.{length_permutation}
 use Rattle.one_run.specs.declared.piece.Piece.{Piece}
 use Rattle.one_run.specs.Pieces.{AllFit, GoesOn, count, is_place}
 use Rattle.one_run.specs.Rules.{Counts}
@@ -21,11 +21,12 @@ use Rattle.shared_run.proofs.Histories.{fits_at, history_stays, registry_stays}
 use Rattle.shared_run.proofs.Touching.{whole_seen}
 use Rattle.locked_run.specs.declared.closing.Ended.{Ended}
 use Rattle.locked_run.specs.declared.closing.Ends.{Ends}
-use Rattle.locked_run.specs.Closing.{AreEnds, AreMissing, IsClosed, beginnings}
+use Rattle.locked_run.specs.Closing.{AreCounted, AreEnds, AreMissing, IsClosed, beginnings}
 use Rattle.locked_run.specs.Parts.{InHeld, registry_part}
-use Rattle.locked_run.specs.Settling.{AreNumbered, AreOfRun, HaveJoined, IsPartOf, IsSettled, IsSettledThere}
+use Rattle.locked_run.specs.Receipts.{StandIn}
+use Rattle.locked_run.specs.Settling.{HaveJoined, IsPartOf, IsSettled, IsSettledThere}
 use Rattle.locked_run.proofs.Rising.{From, Under, counted_at, counting, rising, times}
-use Rattle.locked_run.proofs.Whole.{all_are_numbered, numbered_are_all}
+use Rattle.locked_run.proofs.Whole.{count_beginnings, stand_for_all}
 
 some_same : {X : Type 0} (a b : X) → Some a ≡ Some b → a ≡ b
 some_same a b q = cc
@@ -193,29 +194,23 @@ module _ {R G : Type 0} (stands : G → GuardianState → Type 0) (stored : G �
       fits_at p past now v g (omega arith) in
       whole_seen opening past now r (at 0 registry_place) (λ k low high. at (suc k) (guardian_place k low high))
 
-  -- receipts that are numbered from 1 on are those of all events
-  pub is_closed : (all sorted : List (List Event)) → IsPermutation all sorted → AreNumbered n sorted → AreOfRun opening w sorted
-      → IsClosed stands stored forest opening all ends
-  is_closed all sorted moved counted of_run =
-      let same = all_seen of_run.past of_run.run of_run.fits in
-      let each : (i : ℕ) (x : List Event) → slice_get sorted i ≡ Some x → (length x ≡ i + 1) × GoesOn touches None x past = λ i x is.
-      (counted.each i x is, subst (λ l. GoesOn touches None x l) same (of_run.each i x is)) in
+  -- as many receipts as the run has events are those of all events
+  pub is_closed : (runs : List (List Event)) → length runs ≡ n → AreCounted opening w runs → IsClosed stands stored forest opening runs ends
+  is_closed runs many counted =
+      let same = all_seen counted.past counted.run counted.fits in
       record {
         past = past;
         served = runs_are_served opening past counts.run;
         ends = ends_are;
-        receipts = IsPermutation-trans all sorted (beginnings past) moved (numbered_are_all touches past sorted (counted.many ∙ counts.number) each);
+        receipts = stand_for_all past runs (subst (λ l. StandIn l runs) same counted.stand) (many ∙ counts.number);
       }
 
   -- and others are not
-  pub are_missing : (all sorted : List (List Event)) → IsPermutation all sorted → IsNonDecreasingBy length sorted → (AreNumbered n sorted → ⊥)
-      → AreMissing stands stored forest opening all sorted ends
-  are_missing all sorted moved rises others = record {
+  pub are_missing : (runs : List (List Event)) → length runs ≢ n → AreMissing stands stored forest opening runs runs ends
+  are_missing runs others = record {
     past = past;
     served = runs_are_served opening past counts.run;
     ends = ends_are;
-    back = moved;
-    missing = λ whole.
-        let found = all_are_numbered past sorted rises (IsPermutation-trans sorted all (beginnings past) (IsPermutation-sym all sorted moved) whole) in
-        others (record { many = found.0 ∙ sym counts.number; each = found.1 });
+    back = refl;
+    missing = λ whole. others (sym (length_permutation runs (beginnings past) whole) ∙ count_beginnings past ∙ sym counts.number);
   }

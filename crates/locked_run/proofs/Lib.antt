@@ -9,6 +9,7 @@ pub mod Begun
 pub mod ByItself
 pub mod Rising
 pub mod Whole
+pub mod Telling
 pub mod Joined
 pub mod Behind
 pub mod Gathered

@@ -1,126 +1,167 @@
--- Receipts that are numbered from 1 on, of one run, are those of all its events.
-use Rattle.std.proofs.Common.{◌≡◌, ◌==◌, ◌+◌, ◌-◌, ◌<◌, ◌≤◌, ℕ, zero, suc, Bool, true, false, List, [], ◌∷◌, Option, Some, None, cond, length, get_or, drop, refl, ap, ◌∙◌, sym, subst, arith, slice_get, eqb-true}
-use Rattle.std.specs.Prelude.{reverse}
-use Rattle.std.proofs.lemmas.Bool.Decides.{nat_tests}
-use Rattle.std.proofs.lemmas.List.{get_or-reverse, length-reverse}
-use Rattle.std.proofs.lemmas.List.Elements.{All-from_recursion, recursion_from_All}
-use Rattle.std.proofs.lemmas.List.Sorted.{All-permutation, IsPermutation-reverse, IsPermutation-sym, length_permutation, sum_by-IsPermutation}
-use Rattle.std.proofs.lemmas.List.Sums.{sum_by-cons}
-use Rattle.std.proofs.lemmas.Option.{slice_get-get_or}
-use Rattle.std.specs.List.{AllByRecursion, sum_by}
-use Rattle.std.specs.List.Sorted.{IsNonDecreasingBy, IsPermutation}
-use Rattle.one_run.specs.Pieces.{GoesOn, total}
+-- As many receipts as a run has events, of which no two are of one event, are those of all its events.
+use Rattle.std.proofs.Common.{◌≡◌, ◌==◌, ◌+◌, ◌-◌, ◌≤◌, ℕ, zero, suc, Bool, true, false, List, [], ◌∷◌, Option, cond, length, drop, map, refl, ap, ap₂, ◌∙◌, sym, subst, arith, eqb-true}
+use Rattle.std.proofs.lemmas.Bool.{eqb-false}
+use Rattle.std.proofs.lemmas.List.{length-map}
+use Rattle.std.proofs.lemmas.List.Sorted.{IsPermutation-cons, IsPermutation-map, IsPermutation-middle, IsPermutation-refl, IsPermutation-trans}
+use Rattle.std.specs.List.{AllByRecursion}
+use Rattle.std.specs.List.Sorted.{IsPermutation}
+use Rattle.one_run.specs.Pieces.{GoesOn}
 use Rattle.one_run.specs.Pieces.GoesOn.{longer, stays}
 use Rattle.run_model.specs.declared.history.Event.{Event}
+use Rattle.locked_run.specs.Behind.{IsBehind}
 use Rattle.locked_run.specs.Closing.{beginnings}
-use Rattle.locked_run.proofs.Rising.{From, Under, counted_at, counting, rising, times}
+use Rattle.locked_run.specs.Receipts.{StandIn, run_at}
+use Rattle.locked_run.proofs.Rising.{times}
 
-total_is : {X : Type 0} (f : X → ℕ) (xs : List X) → total f xs ≡ sum_by f xs
-total_is f [] = refl
-total_is f (x ∷ xs) = let rest = total_is f xs in let whole = sum_by-cons f x xs in omega arith
+-- ---- numbers
 
--- lists that have the same at each place
-same_lists : {X : Type 0} (xs ys : List X) → length xs ≡ length ys → ((i : ℕ) (x : X) → slice_get xs i ≡ Some x → slice_get ys i ≡ Some x) → xs ≡ ys
-same_lists [] [] len at = refl
-same_lists [] (y ∷ ys) len at = absurd (omega arith)
-same_lists (x ∷ xs) [] len at = absurd (omega arith)
-same_lists {X} (x ∷ xs) (y ∷ ys) len at =
-    let here : y ≡ x = some_same y x (at 0 x refl) in
-    let rest : xs ≡ ys = same_lists xs ys (omega arith) (λ i z is. at (suc i) z is) in
-    ap (λ l. x ∷ l) rest ∙ ap (λ z. z ∷ ys) (sym here)
+-- each is one of the numbers from 1 to this one
+abbrev Within : ℕ → List ℕ → Type 0
+Within m ns = AllByRecursion (λ n. (1 ≤ n) × (n ≤ m)) ns
+
+-- how often a number stands there
+abbrev alike : ℕ → List ℕ → ℕ
+alike j ns = times (λ (n : ℕ). n) j ns
+
+abbrev without : ℕ → List ℕ → List ℕ
+without j [] = []
+without j (n ∷ ns) = cond (n == j) (without j ns) (n ∷ without j ns)
+
+abbrev down : ℕ → List ℕ
+down zero = []
+down (suc m) = suc m ∷ down m
+
+left_out : (j : ℕ) (ns : List ℕ) → length ns ≡ alike j ns + length (without j ns)
+left_out j [] = refl
+left_out j (n ∷ ns) = of (n == j)
   where
-    some_same : (a b : X) → Some a ≡ Some b → a ≡ b
-    some_same a b q = cc
+    of : (b : Bool) → suc (length ns) ≡ (cond {A = ℕ} b 1 0 + alike j ns) + length (cond b (without j ns) (n ∷ without j ns))
+    of true = let rest = left_out j ns in omega arith
+    of false = let rest = left_out j ns in omega arith
+
+no_more : (i j : ℕ) (ns : List ℕ) → alike i (without j ns) ≤ alike i ns
+no_more i j [] = omega arith
+no_more i j (n ∷ ns) = of (n == j)
+  where
+    of : (b : Bool) → alike i (cond b (without j ns) (n ∷ without j ns)) ≤ cond {A = ℕ} (n == i) 1 0 + alike i ns
+    of true = let rest = no_more i j ns in omega arith
+    of false = let rest = no_more i j ns in omega arith
+
+below : (m : ℕ) (ns : List ℕ) → Within (suc m) ns → Within m (without (suc m) ns)
+below m [] all = tt
+below m (n ∷ ns) all = of (n == suc m) refl
+  where
+    of : (b : Bool) → (n == suc m) ≡ b → Within m (cond b (without (suc m) ns) (n ∷ without (suc m) ns))
+    of true is = below m ns all.1
+    of false is = let apart = eqb-false n (suc m) is in let last = all.0.1 in ((all.0.0, omega arith), below m ns all.1)
+
+-- so many numbers, of which none stands twice, are no more than there are
+few : (m : ℕ) (ns : List ℕ) → Within m ns → ((j : ℕ) → alike j ns ≤ 1) → length ns ≤ m
+few zero [] all once = omega arith
+few zero (n ∷ ns) all once = let first = all.0.0 in let last = all.0.1 in absurd (omega arith)
+few (suc m) ns all once =
+    let rest = few m (without (suc m) ns) (below m ns all) (λ j. let less = no_more j (suc m) ns in let one = once j in omega arith) in
+    let whole = left_out (suc m) ns in
+    let one = once (suc m) in
+    omega arith
+
+none_out : (j : ℕ) (ns : List ℕ) → alike j ns ≡ 0 → without j ns ≡ ns
+none_out j [] none = refl
+none_out j (n ∷ ns) none = of (n == j) none
+  where
+    of : (b : Bool) → cond {A = ℕ} b 1 0 + alike j ns ≡ 0 → cond b (without j ns) (n ∷ without j ns) ≡ n ∷ ns
+    of true h = absurd (omega arith)
+    of false h = ap (λ l. n ∷ l) (none_out j ns (omega arith))
+
+-- a number that stands once, and the others
+front : (j : ℕ) (ns : List ℕ) → alike j ns ≡ 1 → IsPermutation ns (j ∷ without j ns)
+front j [] one = absurd (omega arith)
+front j (n ∷ ns) one = of (n == j) refl one
+  where
+    of : (b : Bool) → (n == j) ≡ b → cond {A = ℕ} b 1 0 + alike j ns ≡ 1 → IsPermutation (n ∷ ns) (j ∷ cond b (without j ns) (n ∷ without j ns))
+    of true is h =
+        let rest = none_out j ns (omega arith) in
+        subst (λ l. IsPermutation (n ∷ ns) l) (ap₂ (λ (k : ℕ) (l : List ℕ). k ∷ l) (eqb-true n j is) (sym rest)) (IsPermutation-refl (n ∷ ns))
+    of false is h =
+        IsPermutation-trans (n ∷ ns) (n ∷ j ∷ without j ns) (j ∷ n ∷ without j ns) (IsPermutation-cons n ns (j ∷ without j ns) (front j ns (omega arith)))
+        (IsPermutation-middle (n ∷ []) j (without j ns))
+
+-- and if they are as many, they are all
+all_numbers : (m : ℕ) (ns : List ℕ) → Within m ns → ((j : ℕ) → alike j ns ≤ 1) → length ns ≡ m → IsPermutation ns (down m)
+all_numbers zero [] all once many = IsPermutation-refl []
+all_numbers zero (n ∷ ns) all once many = absurd (omega arith)
+all_numbers (suc m) ns all once many =
+    let others = without (suc m) ns in
+    let once_there : (j : ℕ) → alike j others ≤ 1 = λ j. let less = no_more j (suc m) ns in let one = once j in omega arith in
+    let less = few m others (below m ns all) once_there in
+    let whole = left_out (suc m) ns in
+    let one = once (suc m) in
+    IsPermutation-trans ns (suc m ∷ others) (suc m ∷ down m) (front (suc m) ns (omega arith))
+    (IsPermutation-cons (suc m) others (down m) (all_numbers m others (below m ns all) once_there (omega arith)))
+
+-- ---- runs
 
 pub count_beginnings : (past : List Event) → length (beginnings past) ≡ length past
 count_beginnings [] = refl
 count_beginnings (e ∷ past) = ap suc (count_beginnings past)
 
--- none has two of one length
-none_longer : (past : List Event) (j : ℕ) → length past < j → times length j (beginnings past) ≡ 0
-none_longer [] j h = refl
-none_longer (e ∷ past) j h =
-    let rest = none_longer past j (omega arith) in
-    let apart : (length (e ∷ past) == j) ≡ false = grind (arith, nat_tests) in
-    let not : cond {A = ℕ} (length (e ∷ past) == j) 1 0 ≡ 0 = ap (λ (b : Bool). cond {A = ℕ} b 1 0) apart in
-    omega arith
-
-pub each_length_once : (past : List Event) (j : ℕ) → times length j (beginnings past) ≤ 1
-each_length_once [] j = omega arith
-each_length_once (e ∷ past) j = of (length (e ∷ past) == j) refl (each_length_once past j)
-  where
-    of : (b : Bool) → (length (e ∷ past) == j) ≡ b → times length j (beginnings past) ≤ 1 → times length j (beginnings (e ∷ past)) ≤ 1
-    of true is rest =
-        let same = eqb-true (length (e ∷ past)) j is in
-        let none = none_longer past j (omega arith) in
-        let one : cond {A = ℕ} (length (e ∷ past) == j) 1 0 ≡ 1 = ap (λ (b : Bool). cond {A = ℕ} b 1 0) is in
-        omega arith
-    of false is rest =
-        let none : cond {A = ℕ} (length (e ∷ past) == j) 1 0 ≡ 0 = ap (λ (b : Bool). cond {A = ℕ} b 1 0) is in
-        omega arith
-
-in_range : (past : List Event) (top : ℕ) → length past < top → AllByRecursion (λ r. (1 ≤ length r) × (length r < top)) (beginnings past)
-in_range [] top h = tt
-in_range (e ∷ past) top h = ((omega arith, h), in_range past top (omega arith))
-
-from_range : (low top : ℕ) (xs : List (List Event)) → AllByRecursion (λ r. (low ≤ length r) × (length r < top)) xs → From length low xs × Under length top xs
-from_range low top [] h = (tt, tt)
-from_range low top (x ∷ xs) h = let rest = from_range low top xs h.1 in ((h.0.0, rest.0), (h.0.1, rest.1))
-
--- So all receipts, when their numbers do not fall, are numbered from 1 on.
-pub all_are_numbered : (past : List Event) (sorted : List (List Event)) → IsNonDecreasingBy length sorted → IsPermutation sorted (beginnings past)
-    → (length sorted ≡ length past) × ((i : ℕ) (x : List Event) → slice_get sorted i ≡ Some x → length x ≡ i + 1)
-all_are_numbered past sorted up whole =
-    let back = IsPermutation-sym sorted (beginnings past) whole in
-    let many : length sorted ≡ length past = length_permutation (beginnings past) sorted back ∙ count_beginnings past in
-    let P : List Event → Type 0 = λ r. (1 ≤ length r) × (length r < suc (length past)) in
-    let range = from_range 1 (suc (length past)) sorted
-    (recursion_from_All P sorted (All-permutation P (beginnings past) sorted back (All-from_recursion P (beginnings past) (in_range past (suc (length past)) (omega arith))))) in
-    let once : (j : ℕ) → times length j sorted ≤ 1 = λ j.
-    let f : List Event → ℕ = λ r. cond {A = ℕ} (length r == j) 1 0 in
-    let same = sum_by-IsPermutation f (beginnings past) sorted back in
-    let one = total_is f sorted in
-    let other = total_is f (beginnings past) in
-    let few = each_length_once past j in
-    omega arith in
-    let top : suc (length past) ≡ 1 + length sorted = omega arith in
-    let numbers = counting length 1 sorted range.0 (subst (λ t. Under length t sorted) top range.1) (rising length sorted up) once in
-    (many, λ i x is. let at = counted_at length 1 sorted i x numbers is in omega arith)
-
 -- a run that goes on from a beginning has it
-longer_seen : {touches : Event → List Event → ℕ → Bool} {place : Option ℕ} {seen past : List Event} → GoesOn touches place seen past → length seen ≤ length past
+pub longer_seen : {touches : Event → List Event → ℕ → Bool} {place : Option ℕ} {seen past : List Event} → GoesOn touches place seen past → length seen ≤ length past
 longer_seen stays = omega arith
 longer_seen (longer e quiet rest) = let less = longer_seen rest in omega arith
 
-pub is_beginning : {touches : Event → List Event → ℕ → Bool} {place : Option ℕ} {seen past : List Event} → GoesOn touches place seen past → seen ≡ drop (length past - length seen) past
-is_beginning {seen = seen} stays = let none : length seen - length seen ≡ 0 = omega arith in ap (λ n. drop n seen) (sym none)
-is_beginning {seen = seen} (longer {past = past} e quiet rest) =
+-- as it was after an event that was seen
+pub run_before : {touches : Event → List Event → ℕ → Bool} {place : Option ℕ} {seen past : List Event} (n : ℕ) → n ≤ length seen → GoesOn touches place seen past
+    → run_at n past ≡ run_at n seen
+run_before n le stays = refl
+run_before n le (longer {past = past} e quiet rest) =
     let less = longer_seen rest in
-    let more : length (e ∷ past) - length seen ≡ suc (length past - length seen) = omega arith in
-    is_beginning rest ∙ ap (λ n. drop n (e ∷ past)) (sym more)
+    let more : length (e ∷ past) - n ≡ suc (length past - n) = omega arith in
+    ap (λ k. drop k (e ∷ past)) more ∙ run_before n le rest
 
-beginning_at : (past : List Event) (j : ℕ) (d : List Event) → j < length past → get_or (beginnings past) j d ≡ drop j past
-beginning_at [] j d h = absurd (omega arith)
-beginning_at (e ∷ past) zero d h = refl
-beginning_at (e ∷ past) (suc j) d h = beginning_at past j d (omega arith)
+whole_at : (past : List Event) → run_at (length past) past ≡ past
+whole_at past = let none : length past - length past ≡ 0 = omega arith in ap (λ k. drop k past) none
 
--- Receipts that are numbered from 1 on, as many as the events of a run of which each is a beginning.
-pub numbered_are_all : (touches : Event → List Event → ℕ → Bool) (past : List Event) (sorted : List (List Event)) → length sorted ≡ length past
-    → ((i : ℕ) (x : List Event) → slice_get sorted i ≡ Some x → (length x ≡ i + 1) × GoesOn touches None x past)
-    → IsPermutation sorted (beginnings past)
-numbered_are_all touches past sorted many each =
-    let oldest : List (List Event) = reverse (beginnings past) in
-    let size = count_beginnings past in
-    let turned : length oldest ≡ length (beginnings past) = length-reverse (beginnings past) in
-    let same : sorted ≡ oldest = same_lists sorted oldest (omega arith) (λ i x is.
-    let lt : i < length sorted = within sorted i x is in
-    let number = (each i x is).0 in
-    let at : get_or oldest i x ≡ get_or (beginnings past) (length (beginnings past) - 1 - i) x = get_or-reverse (beginnings past) i x (omega arith) in
-    let place : length (beginnings past) - 1 - i ≡ length past - length x = omega arith in
-    let whole : get_or oldest i x ≡ x =
-    at ∙ ap (λ j. get_or (beginnings past) j x) place ∙ beginning_at past (length past - length x) x (omega arith) ∙ sym (is_beginning (each i x is).1) in
-    slice_get-get_or oldest i x (omega arith) ∙ ap (λ z. Some z) whole) in
-    subst (λ l. IsPermutation l (beginnings past)) (sym same) (IsPermutation-sym (beginnings past) oldest (IsPermutation-reverse (beginnings past)))
-  where
-    within : (xs : List (List Event)) (i : ℕ) (x : List Event) → slice_get xs i ≡ Some x → i < length xs
-    within xs i x is = Rattle.std.proofs.lemmas.Option.slice_get_within xs i x is
+one_more : (m : ℕ) (e : Event) (past : List Event) → m ≤ length past → map (λ n. run_at n (e ∷ past)) (down m) ≡ map (λ n. run_at n past) (down m)
+one_more zero e past le = refl
+one_more (suc m) e past le =
+    let more : length (e ∷ past) - suc m ≡ suc (length past - suc m) = omega arith in
+    ap₂ (λ (x : List Event) (l : List (List Event)). x ∷ l) (ap (λ k. drop k (e ∷ past)) more) (one_more m e past (omega arith))
+
+all_runs : (past : List Event) → map (λ n. run_at n past) (down (length past)) ≡ beginnings past
+all_runs [] = refl
+all_runs (e ∷ past) =
+    ap₂ (λ (x : List Event) (l : List (List Event)). x ∷ l) (whole_at (e ∷ past)) (one_more (length past) e past (omega arith) ∙ all_runs past)
+
+module _ (past : List Event) where
+  abbrev Each : List (List Event) → Type 0
+  Each runs = AllByRecursion (λ run. (1 ≤ length run) × IsBehind run past) runs
+
+  by_number : (runs : List (List Event)) → Each runs → map (λ n. run_at n past) (map length runs) ≡ runs
+  by_number [] all = refl
+  by_number (x ∷ xs) all =
+      ap₂ (λ (y : List Event) (l : List (List Event)). y ∷ l) (run_before (length x) (omega arith) all.0.1 ∙ whole_at x) (by_number xs all.1)
+
+  numbers : (runs : List (List Event)) → Each runs → Within (length past) (map length runs)
+  numbers [] all = tt
+  numbers (x ∷ xs) all = ((all.0.0, longer_seen all.0.1), numbers xs all.1)
+
+  once_each : (j : ℕ) (runs : List (List Event)) → alike j (map length runs) ≡ times length j runs
+  once_each j [] = refl
+  once_each j (x ∷ xs) = let rest = once_each j xs in omega arith
+
+  -- There are no more than the run has events.
+  pub stand_few : (runs : List (List Event)) → StandIn past runs → length runs ≤ length past
+  stand_few runs s =
+      let many : length (map length runs) ≡ length runs = length-map runs length in
+      let less = few (length past) (map length runs) (numbers runs s.each) (λ j. let same = once_each j runs in let one = s.once j in omega arith) in
+      omega arith
+
+  -- If they are as many, they are all.
+  pub stand_for_all : (runs : List (List Event)) → StandIn past runs → length runs ≡ length past → IsPermutation runs (beginnings past)
+  stand_for_all runs s many =
+      let same : length (map length runs) ≡ length runs = length-map runs length in
+      let all = all_numbers (length past) (map length runs) (numbers runs s.each) (λ j. let same = once_each j runs in let one = s.once j in omega arith) (same ∙ many) in
+      subst (λ l. IsPermutation l (beginnings past)) (by_number runs s.each)
+      (subst (λ l. IsPermutation (map (λ n. run_at n past) (map length runs)) l) (all_runs past)
+      (IsPermutation-map (λ n. run_at n past) (map length runs) (down (length past)) all))
