@@ -207,14 +207,14 @@ module _ {K : Type 0} where
   -- one more, with what it did
   pub did_next : (clients : List Client) (done : List (DoneClient K)) (i : ℕ) (one : DoneClient K) (end : ClientEnd) (ends : List ClientEnd)
       (receipts : List (List Event)) → AreDone clients done → slice_get done i ≡ Some one → one.end ≡ Ok end
-      → AllDid (take i clients) ends receipts → AllDid (take (i + 1) clients) (ends ++ end ∷ []) (receipts ++ one.receipts.items)
+      → AllDid (take i clients) ends receipts → AllDid (take (i + 1) clients) (ends ++ end ∷ []) (receipts ++ one.receipts)
   did_next clients done i one end ends receipts are at ended did =
       let (c, more, is) = done_at clients done i one are at in
-      let own : ClientDid c.home end (events_of one.receipts.items) = subst (λ r. IfOk r (λ e. ClientDid c.home e (events_of one.receipts.items))) ended is in
+      let own : ClientDid c.home end (events_of one.receipts) = subst (λ r. IfOk r (λ e. ClientDid c.home e (events_of one.receipts))) ended is in
       let count : i + 1 ≡ suc i = omega arith in
       let next : take (i + 1) clients ≡ take i clients ++ c ∷ [] = ap (λ n. take n clients) count ∙ more in
-      subst (λ cs. AllDid cs (ends ++ end ∷ []) (receipts ++ one.receipts.items)) (sym next)
-      (did_more (take i clients) ends receipts c end one.receipts.items did own)
+      subst (λ cs. AllDid cs (ends ++ end ∷ []) (receipts ++ one.receipts)) (sym next)
+      (did_more (take i clients) ends receipts c end one.receipts did own)
 
   pub as_many : (clients : List Client) (done : List (DoneClient K)) → AreDone clients done → length clients ≡ length done
   as_many [] [] are = refl

@@ -50,7 +50,7 @@ AllDid (client ∷ clients) (end ∷ ends) receipts =
 
 -- unless it met a fault, the client did what its end says
 abbrev pub IsDone : {K : Type 0} → Client → DoneClient K → Type 0
-IsDone client one = IfOk one.end (λ end. ClientDid client.home end (events_of one.receipts.items))
+IsDone client one = IfOk one.end (λ end. ClientDid client.home end (events_of one.receipts))
 
 -- so of the client at this place, if there is one
 abbrev pub IsDoneAt : {K : Type 0} → List Client → ℕ → DoneClient K → Type 0

@@ -1,5 +1,5 @@
 //! The steps of one thread.
-ghost use Rattle.std.specs.Prelude.{◌≡◌, ◌<◌, ◌++◌, [], ◌∷◌, IfOk, OnErr, OnOk, Some, length, take, vec_capacity, vec_len};
+ghost use Rattle.std.specs.Prelude.{◌≡◌, ◌++◌, [], ◌∷◌, IfOk, Some, length, take};
 ghost use Rattle.activities.specs.Apart.{AllRunnable, begun_names, ended_name, ended_names};
 ghost use Rattle.activities.specs.Making.{AreOwn, CommitOnly, Makes};
 ghost use Rattle.client_threads.specs.Callers.{only, run_of};
@@ -16,7 +16,7 @@ use atomic_types::Op;
 use crossbeam_channel::bounded;
 use layer_contracts::{Forest, Guardian};
 use run_model::{Answer, ObjectId, Step};
-use runtime::{Answered, Gate, OfRun, Receipt, StepFault};
+use runtime::{Answered, Gate, OfRun, Receipts, StepFault};
 use std::alloc::{AllocError, Global};
 use std::sync::{Arc, Wait};
 use stepping::Fault;
@@ -25,7 +25,7 @@ use stepping::Fault;
 #[derive(Drop)]
 pub(crate) struct Caller<'a, K: OfRun, S: OfScript, R: Forest, G: Guardian, P: Gate, H> {
     calls: &'a OverRuntime<'a, K, S, R, G, P, H>,
-    receipts: Vec<Receipt<K>>,
+    receipts: Receipts<K>,
     coenters: Coenters,
     has_arms_apart: bool,
     /// Why a step failed first, in this thread or in its arms, if one did. The thread ends with its first fault.
@@ -47,11 +47,11 @@ impl<'a, K: OfRun, S: OfScript, R: Forest, G: Guardian, P: Gate, H: Wait> Caller
         has_arms_apart: bool,
     ) -> Caller<'a, K, S, R, G, P, H>
         ensures calls { result.calls.now ≡ calls.now }
-        ensures none { result.receipts.items ≡ [] }
+        ensures none { result.receipts ≡ [] }
     {
         Caller {
             calls,
-            receipts: Vec::new(calls.alloc),
+            receipts: calls.runtime.no_receipts(),
             coenters: Vec::new(calls.alloc),
             has_arms_apart,
             first_fault: None,
@@ -64,11 +64,11 @@ impl<'a, K: OfRun, S: OfScript, R: Forest, G: Guardian, P: Gate, H: Wait> Caller
         coenters: Coenters,
     ) -> Caller<'a, K, S, R, G, P, H>
         ensures calls { result.calls.now ≡ calls.now }
-        ensures none { result.receipts.items ≡ [] }
+        ensures none { result.receipts ≡ [] }
     {
         Caller {
             calls,
-            receipts: Vec::new(calls.alloc),
+            receipts: calls.runtime.no_receipts(),
             coenters,
             has_arms_apart: true,
             first_fault: None,
@@ -77,8 +77,8 @@ impl<'a, K: OfRun, S: OfScript, R: Forest, G: Guardian, P: Gate, H: Wait> Caller
 
     /// The arm, which the thread ran, with the receipts of its events.
     pub(crate) fn into_done(self, place: usize, arm: EndedArm) -> DoneArm<K>
-        requires own { AreOwn (ended_name arm ∷ []) (events_of self.receipts.items) }
-        requires commits { CommitOnly (ended_name arm ∷ []) (events_of self.receipts.items) }
+        requires own { AreOwn (ended_name arm ∷ []) (events_of self.receipts) }
+        requires commits { CommitOnly (ended_name arm ∷ []) (events_of self.receipts) }
     {
         let Caller {
             calls: _,
@@ -96,7 +96,7 @@ impl<'a, K: OfRun, S: OfScript, R: Forest, G: Guardian, P: Gate, H: Wait> Caller
     }
 
     /// The receipts of its events.
-    pub(crate) fn into_receipts(self) -> Vec<Receipt<K>>
+    pub(crate) fn into_receipts(self) -> Receipts<K>
         ensures { result ≡ self.entry.receipts }
     {
         let Caller {
@@ -121,11 +121,10 @@ impl<'a, K: OfRun, S: OfScript, R: Forest, G: Guardian, P: Gate, H: Wait> Caller
         }
     }
 
-    /// Keeps the receipt of an answer, for which there is room; or the fault, if it is the first.
+    /// Keeps the receipt of an answer, if it has one; or the fault, if it is the first.
     fn keep(&mut self, answered: Result<Answered<K>, StepFault>) -> Result<Answer, Fault>
-        requires room { vec_len self.old.receipts < vec_capacity self.old.receipts }
         ensures calls { self.new.calls.now ≡ self.old.calls.now }
-        ensures kept { IsKept answered result self.old.receipts.items self.new.receipts.items }
+        ensures kept { IsKept answered result self.old.receipts self.new.receipts }
     {
         match answered {
             Ok(answered) => {
@@ -136,7 +135,9 @@ impl<'a, K: OfRun, S: OfScript, R: Forest, G: Guardian, P: Gate, H: Wait> Caller
                 } = answered;
                 if let Some(receipt) = receipt {
                     self.calls.watch.note_step();
-                    self.receipts.push_reserved(receipt);
+                    self.calls
+                        .runtime
+                        .add_receipt(&mut self.receipts, receipt);
                 }
                 Ok(answer)
             }
@@ -178,8 +179,8 @@ impl<'a, K: OfRun, S: OfScript, R: Forest, G: Guardian, P: Gate, H: Wait> Caller
         done: Vec<DoneArm<K>>,
     ) -> Result<Vec<EndedArm>, AllocError>
         ensures makes { Makes names.now names.now
-            (run_of self.old.calls.now.opening.now self.old.receipts.items)
-            (run_of self.new.calls.now.opening.now self.new.receipts.items) }
+            (run_of self.old.calls.now.opening.now self.old.receipts)
+            (run_of self.new.calls.now.opening.now self.new.receipts) }
         ensures ended { IfOk result (λ ended. ended_names ended.items
             ≡ take (length ended.items) names.now) }
     {
@@ -188,8 +189,7 @@ impl<'a, K: OfRun, S: OfScript, R: Forest, G: Guardian, P: Gate, H: Wait> Caller
         for name in names.as_slice() {
             match done.next() {
                 Some(arm) if arm.arm.name() == name => {
-                    let arm = self.learn(arm)?;
-                    ended.push_reserved(arm);
+                    ended.push_reserved(self.learn(arm));
                 }
                 _ => break,
             }
@@ -198,12 +198,10 @@ impl<'a, K: OfRun, S: OfScript, R: Forest, G: Guardian, P: Gate, H: Wait> Caller
     }
 
     /// Takes the receipts of an arm that has ended.
-    fn learn(&mut self, arm: DoneArm<K>) -> Result<EndedArm, AllocError>
+    fn learn(&mut self, arm: DoneArm<K>) -> EndedArm
         ensures calls { self.new.calls.now ≡ self.old.calls.now }
-        ensures arm { IfOk result (λ ended. ended ≡ arm.arm) }
-        ensures receipts { OnOk result
-            (self.new.receipts.items ≡ self.old.receipts.items ++ arm.receipts.items) }
-        ensures err { OnErr result (self.new.receipts.items ≡ self.old.receipts.items) }
+        ensures arm { result ≡ arm.arm }
+        ensures receipts { self.new.receipts ≡ self.old.receipts ++ arm.receipts }
     {
         let DoneArm {
             place: _,
@@ -211,10 +209,11 @@ impl<'a, K: OfRun, S: OfScript, R: Forest, G: Guardian, P: Gate, H: Wait> Caller
             receipts,
             first_fault,
         } = arm;
-        let mut receipts = receipts;
-        self.receipts.append(&mut receipts)?;
+        self.calls
+            .runtime
+            .join_receipts(&mut self.receipts, receipts);
         self.first_fault = self.first_fault.or(first_fault);
-        Ok(arm)
+        arm
     }
 }
 
@@ -222,7 +221,7 @@ impl<'a, K: OfRun, S: OfScript, R: Forest, G: Guardian, P: Gate, H: Wait> Activi
     for Caller<'a, K, S, R, G, P, H> {
     ghost use Rattle.client_threads.specs.Callers.{only, run_of};
 
-    ghost run = { λ c. run_of c.calls.now.opening.now c.receipts.items };
+    ghost run = { λ c. run_of c.calls.now.opening.now c.receipts };
 
     ghost alone = { ⊥ };
 
@@ -231,7 +230,6 @@ impl<'a, K: OfRun, S: OfScript, R: Forest, G: Guardian, P: Gate, H: Wait> Activi
     ghost fails = { λ fault. Unit {0} };
 
     fn make_step(&mut self, step: &Step) -> Result<Answer, Fault> {
-        self.receipts.reserve(1)?;
         let answered = self.calls.step(step);
         self.keep(answered)
     }
@@ -243,7 +241,6 @@ impl<'a, K: OfRun, S: OfScript, R: Forest, G: Guardian, P: Gate, H: Wait> Activi
         operation: Op,
         starters: &[Name],
     ) -> Result<Answer, Fault> {
-        self.receipts.reserve(1)?;
         let answered = self
             .calls
             .op_wait(action, object, &operation, starters, &self.coenters);

@@ -16,7 +16,7 @@ use activities::{Checked, ClientEnd, run_client};
 use crossbeam_channel::{Receiver, bounded};
 use layer_contracts::{Forest, Guardian};
 use run_model::Opening;
-use runtime::{Gate, OfRun, Receipt, Runtime, StepFault};
+use runtime::{Gate, OfRun, Receipts, Runtime, StepFault};
 use script_model::Client;
 use std::alloc::{AllocError, Global};
 use std::marker::Brand;
@@ -30,7 +30,7 @@ const ORDERS: usize = 64;
 #[derive(Drop)]
 struct DoneClient<K: OfRun> {
     end: Result<ClientEnd, StepFault>,
-    receipts: Vec<Receipt<K>>,
+    receipts: Receipts<K>,
 }
 
 /// Runs each client, and each arm of a `coenter`, in a thread of its own, and gives how the clients ended, in their
@@ -55,13 +55,13 @@ pub fn run_clients<
     opening: &Opening,
     script: &Checked,
     watch: &Watch,
-) -> Result<(Vec<ClientEnd>, Vec<Receipt<K>>), StepFault>
+) -> Result<(Vec<ClientEnd>, Receipts<K>), StepFault>
     requires opening { opening_in opening.now ≡ K.opening }
     requires script { IsResolved script.now }
-    ensures { IfOk result (λ r. AllDid script.now.clients r.0.items r.1.items) }
+    ensures { IfOk result (λ r. AllDid script.now.clients r.0.items r.1) }
 {
     let done = run_named::<K, Brand, R, G, P, H>(alloc, rt, runtime, opening, script, watch)?;
-    ends_of(alloc, done)
+    ends_of(alloc, runtime, done)
 }
 
 /// The same for a script that has a name in the types of what threads share.
@@ -216,20 +216,20 @@ fn run_one<K: OfRun, S: OfScript, R: Forest, G: Guardian, P: Gate, H: Wait>(
 }
 
 /// How the clients ended, and the receipts of all.
-fn ends_of<K: OfRun>(
+fn ends_of<K: OfRun, R: Forest, G: Guardian, P: Gate>(
     alloc: Global,
+    runtime: &Runtime<K, R, G, P>,
     done: Vec<DoneClient<K>>,
-) -> Result<(Vec<ClientEnd>, Vec<Receipt<K>>), StepFault>
+) -> Result<(Vec<ClientEnd>, Receipts<K>), StepFault>
     ensures { (clients : List Asked) → AreDone clients done.items
-        → IfOk result (λ r. AllDid clients r.0.items r.1.items) }
+        → IfOk result (λ r. AllDid clients r.0.items r.1) }
 {
     let mut ends = Vec::with_capacity(alloc, done.len())?;
-    let mut receipts = Vec::new(alloc);
+    let mut receipts = runtime.no_receipts();
     for one in done {
         let DoneClient { end, receipts: own } = one;
-        let mut own = own;
         let end = end?;
-        receipts.append(&mut own)?;
+        runtime.join_receipts(&mut receipts, own);
         ends.push_reserved(end);
     }
     Ok((ends, receipts))

@@ -7,7 +7,7 @@ ghost use Rattle.runtime.specs.Receipts.{events_of};
 use crate::coenter::{Coenters, shared};
 use activities::{BegunArm, EndedArm};
 use crossbeam_channel::Sender;
-use runtime::{OfRun, Receipt, StepFault};
+use runtime::{OfRun, Receipts, StepFault};
 use std::alloc::{AllocError, Global};
 use std::marker::{Brand, PhantomData};
 
@@ -57,11 +57,11 @@ pub(crate) struct Started<K: OfRun, S: OfScript> {
 pub(crate) struct DoneArm<K: OfRun> {
     pub(crate) place: usize,
     pub(crate) arm: EndedArm,
-    pub(crate) receipts: Vec<Receipt<K>>,
+    pub(crate) receipts: Receipts<K>,
     /// Why a step failed first, if one did.
     pub(crate) first_fault: Option<StepFault>,
-    pub(crate) ghost own: { ∥ AreOwn (ended_name arm ∷ []) (events_of receipts.items) ∥₁ },
-    pub(crate) ghost commits: { ∥ CommitOnly (ended_name arm ∷ []) (events_of receipts.items) ∥₁ },
+    pub(crate) ghost own: { ∥ AreOwn (ended_name arm ∷ []) (events_of receipts) ∥₁ },
+    pub(crate) ghost commits: { ∥ CommitOnly (ended_name arm ∷ []) (events_of receipts) ∥₁ },
 }
 
 impl<K: OfRun, S: OfScript> Handed<K, S> {

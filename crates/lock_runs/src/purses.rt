@@ -191,7 +191,7 @@ fn move_all<K: OfRun, H: Wait>(
 ) -> Result<Vec<Receipt<K>>, RowFault>
     requires { opening_in opening.now ≡ K.opening }
 {
-    let mut service = Service::over(Session::new(alloc, rt, runtime, opening, &Endless));
+    let mut service = Service::over(Session::new(rt, runtime, opening, &Endless));
     for turn in 0..MOVES {
         let from = index.wrapping_add(turn) % PURSES;
         let to = from.wrapping_add(1).wrapping_add(turn % (PURSES - 1)) % PURSES;
@@ -218,7 +218,7 @@ fn count_all<K: OfRun, H: Wait>(
 ) -> Result<i64, RowFault>
     requires { opening_in opening.now ≡ K.opening }
 {
-    let mut service = Service::over(Session::new(alloc, rt, runtime, opening, &Endless));
+    let mut service = Service::over(Session::new(rt, runtime, opening, &Endless));
     let mut all: i64 = 0;
     for guardian in 1..=PURSES {
         let Transacted { outcome, left: _ } = service.transact(

@@ -16,6 +16,8 @@ mod waiting;
 pub use answered::Answered;
 pub use fault::StepFault;
 pub use gate::{Gate, OpenGate};
-pub use locked_run::{CloseFault, Ended, Ends, OfRun, Receipt, Seen, Start, StoredHistory};
+pub use locked_run::{
+    CloseFault, Ended, Ends, Known, OfRun, Receipt, Receipts, Seen, Start, StoredHistory,
+};
 pub use patience::{Endless, Patience};
 pub use runtime::Runtime;

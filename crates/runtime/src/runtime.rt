@@ -1,5 +1,5 @@
 //! The runtime that all threads of a service share.
-ghost use Rattle.std.specs.Prelude.{◌≡◌, ◌⊎◌, ◌≤◌, [], false, IfErr, IfOk, IfSome, length, vec_capacity, vec_len};
+ghost use Rattle.std.specs.Prelude.{◌≡◌, ◌⊎◌, ◌≤◌, ◌++◌, ◌∷◌, [], false, IfErr, IfOk, IfSome, length, vec_capacity, vec_len};
 ghost use Rattle.run_model.specs.Openings.{opening_in};
 ghost use Rattle.run_model.specs.Runs.{IsRun};
 ghost use Rattle.run_model.specs.declared.step.Step.TheVariants.{Op};
@@ -8,6 +8,7 @@ ghost use Rattle.locked_run.specs.Acting.{IsAnswered};
 ghost use Rattle.locked_run.specs.Behind.{IsBehind};
 ghost use Rattle.locked_run.specs.Closing.{IsClosed, IsUnclosed};
 ghost use Rattle.locked_run.specs.Parts.{AreOfOne};
+ghost use Rattle.locked_run.specs.Receipts.{StandIn};
 ghost use Rattle.runtime.specs.Answering.{IsAnsweredBehind, IsAnsweredFrom};
 ghost use Rattle.runtime.specs.Waiting.{sleeps};
 
@@ -20,7 +21,8 @@ use crate::place::Place;
 use crate::waiting::sleeps;
 use layer_contracts::{Forest, Guardian};
 use locked_run::{
-    CloseFault, Ends, Held, HeldRegistry, OfRun, Receipt, Seen, Shared, Start, begin, close_all,
+    CloseFault, Ends, Held, HeldRegistry, Known, OfRun, Receipt, Receipts, Seen, Shared, Start, begin,
+    close_all,
 };
 use run_model::{Name, ObjectId, Op, Step};
 use std::alloc::{AllocError, Global};
@@ -193,14 +195,76 @@ impl<K: OfRun, R: Forest, G: Guardian, P: Gate> Runtime<K, R, G, P> {
         seen.copy(&self.shared)
     }
 
+    /// Receipts of no events.
+    pub fn no_receipts(&self) -> Receipts<K>
+        ensures { result ≡ [] }
+    {
+        Receipts::none(&self.shared)
+    }
+
+    /// One receipt more.
+    pub fn add_receipt(&self, receipts: &mut Receipts<K>, receipt: Receipt<K>)
+        ensures { receipts.new ≡ receipts.old ++ receipt ∷ [] }
+    {
+        receipts.add(&self.shared, receipt);
+    }
+
+    /// The receipts of two threads, together.
+    pub fn join_receipts(&self, receipts: &mut Receipts<K>, others: Receipts<K>)
+        ensures { receipts.new ≡ receipts.old ++ others }
+    {
+        receipts.join(&self.shared, others);
+    }
+
+    /// The events of these receipts, for another thread to know.
+    pub fn told(&self, receipts: &mut Receipts<K>) -> Known<K>
+        ensures told { result ≡ receipts.old }
+        ensures same { receipts.new ≡ receipts.old }
+    {
+        receipts.told(&self.shared)
+    }
+
+    /// Looks at the run together with what was seen of it. Each event of these receipts stands in it, and none has two
+    /// of them.
+    pub fn look(&self, receipts: &mut Receipts<K>, seen: Seen<K>) -> Seen<K>
+        ensures run { IsRun K.opening result }
+        ensures behind { IsBehind seen result }
+        ensures stand { StandIn result receipts.old }
+        ensures same { receipts.new ≡ receipts.old }
+    {
+        receipts.look(&self.shared, seen)
+    }
+
+    /// What is known of no events.
+    pub fn none_known(&self) -> Known<K>
+        ensures { result ≡ [] }
+    {
+        Known::none(&self.shared)
+    }
+
+    /// What is known of events once more, perhaps for another thread.
+    pub fn copy_known(&self, known: &mut Known<K>) -> Known<K>
+        ensures copied { result ≡ known.old }
+        ensures same { known.new ≡ known.old }
+    {
+        known.copy(&self.shared)
+    }
+
+    /// What is known of events, with what is known of others.
+    pub fn join_known(&self, known: &mut Known<K>, others: Known<K>)
+        ensures { known.new ≡ known.old ++ others }
+    {
+        known.join(&self.shared, others);
+    }
+
     /// Ends the run, which is served: each action that is no orphan sees in it what one plain store would have shown
     /// it, serially. The registry and the guardians are a world of that run, and each has kept its events. It is
     /// closed exactly if these receipts are those of its events, each once; otherwise they come back.
-    pub fn close_all(self, receipts: Vec<Receipt<K>>) -> Result<Ends<R, G>, CloseFault<K, R, G>>
+    pub fn close_all(self, receipts: Receipts<K>) -> Result<Ends<R, G>, CloseFault<K, R, G>>
         ensures closed { IfOk result
-            (λ ends. IsClosed G.stands G.stored R.stands K.opening receipts.items ends) }
+            (λ ends. IsClosed G.stands G.stored R.stands K.opening receipts ends) }
         ensures unclosed { IfErr result (λ fault. IsUnclosed G.stands G.stored R.stands K.opening
-            receipts.items fault) }
+            receipts fault) }
     {
         let Runtime {
             alloc,

@@ -23,7 +23,7 @@ use layer_contracts::{Forest, Guardian as Serves};
 use registry::Registry;
 use run_model::{Opening, Setup};
 use runtime::{
-    CloseFault, Ended, Ends, Gate, OfRun, OpenGate, Receipt, Runtime, Start, StepFault,
+    CloseFault, Ended, Ends, Gate, OfRun, OpenGate, Receipts, Runtime, Start, StepFault,
     StoredHistory,
 };
 use script::Checked;
@@ -194,7 +194,7 @@ fn in_run<K: OfRun + Send + Sync, H: Threads + Wait + Sync, C: Wait + Clock + Ep
 }
 
 /// What clients came to, and the receipts of all their events.
-type Done<K> = (Vec<ClientEnd>, Vec<Receipt<K>>);
+type Done<K> = (Vec<ClientEnd>, Receipts<K>);
 
 /// What the clients of a run are run by.
 #[derive(Drop)]

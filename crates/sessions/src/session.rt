@@ -1,6 +1,5 @@
 //! The steps of one thread.
-ghost use Rattle.std.specs.Prelude.{◌≡◌, ◌<◌, ◌++◌, [], true, IfOk, None, OnOk, option_to_list};
-ghost use Rattle.std.specs.Prelude.{vec_capacity, vec_len};
+ghost use Rattle.std.specs.Prelude.{◌≡◌, [], true, IfOk, None};
 ghost use Rattle.run_model.specs.Openings.{opening_in};
 ghost use Rattle.run_model.specs.declared.step.Step.{Step};
 ghost use Rattle.run_model.specs.declared.step.Step.TheVariants.{Op as Operation};
@@ -13,8 +12,7 @@ ghost use Rattle.stepping.specs.Beside.{is_waits};
 
 use layer_contracts::{Forest, Guardian};
 use run_model::{Answer, Name, ObjectId, Op, Opening, Step};
-use runtime::{Answered, Gate, OfRun, Patience, Receipt, Runtime, Seen, StepFault};
-use std::alloc::Global;
+use runtime::{Answered, Gate, OfRun, Patience, Receipts, Runtime, Seen, StepFault};
 use std::sync::Wait;
 use stepping::{Fault, MakesOwnSteps};
 
@@ -24,18 +22,17 @@ use stepping::{Fault, MakesOwnSteps};
 /// An operation that waits for other actions sleeps until the patience is over.
 #[derive(Drop)]
 pub struct Session<'a, K: OfRun, R: Forest, G: Guardian, P: Gate, U: Patience, H> {
-    alloc: Global,
     rt: &'a H,
     runtime: &'a Runtime<K, R, G, P>,
     opening: &'a Opening,
     patience: &'a U,
-    receipts: Vec<Receipt<K>>,
+    receipts: Receipts<K>,
     /// What was seen of the run once a step was answered, if one was.
     last_seen: Option<Seen<K>>,
     /// Why the last step failed, if it did.
     last_fault: Option<StepFault>,
     ghost same: { opening_in opening.now ≡ K.opening },
-    ghost nested: { ∥ AreIn (events_of receipts.items) last_seen ∥₁ },
+    ghost nested: { ∥ AreIn (events_of receipts) last_seen ∥₁ },
 }
 
 impl<'a, K: OfRun, R: Forest, G: Guardian, P: Gate, U: Patience, H: Wait> Session<
@@ -49,7 +46,6 @@ impl<'a, K: OfRun, R: Forest, G: Guardian, P: Gate, U: Patience, H: Wait> Sessio
 > {
     /// Nothing has happened in the thread.
     pub fn new(
-        alloc: Global,
         rt: &'a H,
         runtime: &'a Runtime<K, R, G, P>,
         opening: &'a Opening,
@@ -57,24 +53,23 @@ impl<'a, K: OfRun, R: Forest, G: Guardian, P: Gate, U: Patience, H: Wait> Sessio
     ) -> Session<'a, K, R, G, P, U, H>
         requires { opening_in opening.now ≡ K.opening }
         ensures opening { result.opening.now ≡ opening.now }
-        ensures none { result.receipts.items ≡ [] }
+        ensures none { result.receipts ≡ [] }
         ensures unseen { result.last_seen ≡ None }
         ensures no_fault { result.last_fault ≡ None }
     {
         Session {
-            alloc,
             rt,
             runtime,
             opening,
             patience,
-            receipts: Vec::new(alloc),
+            receipts: runtime.no_receipts(),
             last_seen: None,
             last_fault: None,
         }
     }
 
     /// The receipts of its events, in the order in which they came.
-    pub fn into_receipts(self) -> Vec<Receipt<K>>
+    pub fn into_receipts(self) -> Receipts<K>
         ensures { result ≡ self.entry.receipts }
     {
         let Session { receipts, .. } = self;
@@ -88,23 +83,21 @@ impl<'a, K: OfRun, R: Forest, G: Guardian, P: Gate, U: Patience, H: Wait> Sessio
         self.last_fault
     }
 
-    /// Makes a step behind the last one, once there is room for its receipt.
+    /// Makes a step behind the last one.
     fn step_behind(&mut self, step: &Step) -> Result<Answered<K>, StepFault>
         ensures answered { IfOk result (λ a. IsAnsweredFrom K.opening self.old.last_seen step.now
             a.answer a.receipt a.seen) }
         ensures seen { self.new.last_seen ≡ self.old.last_seen }
-        ensures receipts { self.new.receipts.items ≡ self.old.receipts.items }
-        ensures room { OnOk result (vec_len self.new.receipts < vec_capacity self.new.receipts) }
+        ensures receipts { self.new.receipts ≡ self.old.receipts }
         ensures opening { self.new.opening.now ≡ self.old.opening.now }
     {
-        self.receipts.reserve(1)?;
         match &mut self.last_seen {
             Some(seen) => self.runtime.step_behind(self.rt, seen, step),
             None => self.runtime.step(self.rt, step),
         }
     }
 
-    /// Makes an operation behind the last step, once there is room for its receipt, and sleeps while it waits.
+    /// Makes an operation behind the last step, and sleeps while it waits.
     fn wait_behind(
         &mut self,
         action: &Name,
@@ -115,11 +108,9 @@ impl<'a, K: OfRun, R: Forest, G: Guardian, P: Gate, U: Patience, H: Wait> Sessio
             (Operation action.now object operation.now) a.answer a.receipt a.seen) }
         ensures waits { IfOk result (λ a. is_waits a.answer ≡ true → U.over) }
         ensures seen { self.new.last_seen ≡ self.old.last_seen }
-        ensures receipts { self.new.receipts.items ≡ self.old.receipts.items }
-        ensures room { OnOk result (vec_len self.new.receipts < vec_capacity self.new.receipts) }
+        ensures receipts { self.new.receipts ≡ self.old.receipts }
         ensures opening { self.new.opening.now ≡ self.old.opening.now }
     {
-        self.receipts.reserve(1)?;
         let (rt, patience) = (self.rt, self.patience);
         match &mut self.last_seen {
             Some(seen) => self
@@ -133,10 +124,9 @@ impl<'a, K: OfRun, R: Forest, G: Guardian, P: Gate, U: Patience, H: Wait> Sessio
 
     /// Keeps what was seen after an answer that came behind the last step, and its receipt if it has one; or the fault.
     fn keep(&mut self, answered: Result<Answered<K>, StepFault>) -> Result<Answer, Fault>
-        requires room { OnOk answered (vec_len self.old.receipts < vec_capacity self.old.receipts) }
         requires behind { (step : Step) × IfOk answered (λ a. IsAnsweredFrom K.opening
             self.old.last_seen step a.answer a.receipt a.seen) }
-        ensures kept { IsKept answered result self.old.receipts.items self.new.receipts.items }
+        ensures kept { IsKept answered result self.old.receipts self.new.receipts }
         ensures seen { IsLastSeen answered self.old.last_seen self.new.last_seen }
         ensures fault { IsLastFault (fault_in result) self.new.last_fault }
         ensures opening { self.new.opening.now ≡ self.old.opening.now }
@@ -148,7 +138,9 @@ impl<'a, K: OfRun, R: Forest, G: Guardian, P: Gate, U: Patience, H: Wait> Sessio
                     receipt,
                     seen,
                 } = answered;
-                keep_receipt(&mut self.receipts, receipt);
+                if let Some(receipt) = receipt {
+                    self.runtime.add_receipt(&mut self.receipts, receipt);
+                }
                 self.last_seen = Some(seen);
                 self.last_fault = None;
                 Ok(answer)
@@ -158,16 +150,6 @@ impl<'a, K: OfRun, R: Forest, G: Guardian, P: Gate, U: Patience, H: Wait> Sessio
                 Err(told(fault))
             }
         }
-    }
-}
-
-/// Keeps the receipt, if there is one. There is room for it.
-fn keep_receipt<K: OfRun>(receipts: &mut Vec<Receipt<K>>, receipt: Option<Receipt<K>>)
-    requires { vec_len receipts.old < vec_capacity receipts.old }
-    ensures { receipts.new.items ≡ receipts.old.items ++ option_to_list receipt }
-{
-    if let Some(receipt) = receipt {
-        receipts.push_reserved(receipt);
     }
 }
 
@@ -186,7 +168,7 @@ impl<'a, K: OfRun, R: Forest, G: Guardian, P: Gate, U: Patience, H: Wait> MakesO
     for Session<'a, K, R, G, P, U, H> {
     ghost use Rattle.sessions.specs.Sessions.{IsLastFault, run_of};
 
-    ghost run = { λ s. run_of s.opening.now s.receipts.items };
+    ghost run = { λ s. run_of s.opening.now s.receipts };
 
     ghost sees = { λ own seen. Unit {0} };
 

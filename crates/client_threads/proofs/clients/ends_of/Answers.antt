@@ -29,10 +29,10 @@ loop-one-preserved g c =
       count = ap length c.push_reserved.ensures.items ∙ length_push l.ends.items c.in_ok-end.end ∙ ap (λ n. n + 1) l.invariant.count ∙ sym longer;
       room = search rules;
       did = λ clients are.
-          subst (λ n. AllDid (take n clients) c.push_reserved.new.self.items c.append.new.self.items) (sym longer)
-          (subst (λ es. AllDid (take (length l.yielded + 1) clients) es c.append.new.self.items) (sym c.push_reserved.ensures.items)
-          (subst (λ rs. AllDid (take (length l.yielded + 1) clients) (l.ends.items ++ c.in_ok-end.end ∷ []) rs) (sym c.in_ok-append.ensures.items)
-          (did_next clients all (length l.yielded) one c.in_ok-end.end l.ends.items l.receipts.items are at c.in_ok-end.was (l.invariant.did clients are))));
+          subst (λ n. AllDid (take n clients) c.push_reserved.new.self.items c.join_receipts.new.receipts) (sym longer)
+          (subst (λ es. AllDid (take (length l.yielded + 1) clients) es c.join_receipts.new.receipts) (sym c.push_reserved.ensures.items)
+          (subst (λ rs. AllDid (take (length l.yielded + 1) clients) (l.ends.items ++ c.in_ok-end.end ∷ []) rs) (sym c.join_receipts.ensures)
+          (did_next clients all (length l.yielded) one c.in_ok-end.end l.ends.items l.receipts are at c.in_ok-end.was (l.invariant.did clients are))));
     }
 
 pub returns : goal.returns
@@ -41,4 +41,4 @@ returns g c = λ clients are.
     let l = c.loop-one in
     let e = YieldsList-end (YieldsList-from_vec all c.into_iter-one-iterator.ensures.into_iter_gives.0 (c.into_iter-one-iterator.ensures.into_iter_gives.1 ∙ c.args.done.ok.0)) l.yielded _ l.yielded_by _ c.next.new.self c.in-None.is c.next.ensures.steps in
     let many = as_many clients all are in
-    subst (λ cs. AllDid cs l.ends.items l.receipts.items) (take_all (length l.yielded) clients (omega (arith, e.1, many))) (l.invariant.did clients are)
+    subst (λ cs. AllDid cs l.ends.items l.receipts) (take_all (length l.yielded) clients (omega (arith, e.1, many))) (l.invariant.did clients are)

@@ -10,5 +10,5 @@ invariant-loop-one g l = record {
   is_finite : (goal.iterator-loop-one g).is_finite l.one-iterator;
   count : length l.ends.items ≡ length l.yielded;
   room : length l.fn.done.items ≤ vec_capacity l.ends;
-  did : (clients : List Client) → AreDone clients l.fn.done.items → AllDid (take (length l.yielded) clients) l.ends.items l.receipts.items;
+  did : (clients : List Client) → AreDone clients l.fn.done.items → AllDid (take (length l.yielded) clients) l.ends.items l.receipts;
 }

@@ -10,12 +10,12 @@ run_arm-arm-requires-clause-body g c = subst (λ s. IsRunnable s c.args.started.
 
 pub into_done-requires-clause-own : goal.into_done-requires-clause-own
 into_done-requires-clause-own g c =
-    made_own (begun_name c.args.started.arm) (ended_name c.run_arm-arm.result) (run_of c.of_arm-caller.result.calls.now.opening.now c.of_arm-caller.result.receipts.items)
-    (run_of c.run_arm-arm.new.world.calls.now.opening.now c.run_arm-arm.new.world.receipts.items) (ap events_of c.of_arm-caller.ensures.none)
+    made_own (begun_name c.args.started.arm) (ended_name c.run_arm-arm.result) (run_of c.of_arm-caller.result.calls.now.opening.now c.of_arm-caller.result.receipts)
+    (run_of c.run_arm-arm.new.world.calls.now.opening.now c.run_arm-arm.new.world.receipts) (ap events_of c.of_arm-caller.ensures.none)
     c.run_arm-arm.ensures.name c.run_arm-arm.ensures.makes
 
 pub into_done-requires-clause-commits : goal.into_done-requires-clause-commits
 into_done-requires-clause-commits g c =
-    made_commits (begun_name c.args.started.arm) (ended_name c.run_arm-arm.result) (run_of c.of_arm-caller.result.calls.now.opening.now c.of_arm-caller.result.receipts.items)
-    (run_of c.run_arm-arm.new.world.calls.now.opening.now c.run_arm-arm.new.world.receipts.items) (ap events_of c.of_arm-caller.ensures.none)
+    made_commits (begun_name c.args.started.arm) (ended_name c.run_arm-arm.result) (run_of c.of_arm-caller.result.calls.now.opening.now c.of_arm-caller.result.receipts)
+    (run_of c.run_arm-arm.new.world.calls.now.opening.now c.run_arm-arm.new.world.receipts) (ap events_of c.of_arm-caller.ensures.none)
     c.run_arm-arm.ensures.name c.run_arm-arm.ensures.makes

@@ -29,8 +29,8 @@ loop-name-preserved g c =
       calls = c.learn.ensures.calls ∙ l.invariant.calls;
       makes =
           makes_through names names _ _ _ l.invariant.makes
-          (learned l.self.calls.now.opening.now c.learn.new.self.calls.now.opening.now names (ended_name arm.arm) l.self.receipts.items arm.receipts.items
-          c.learn.new.self.receipts.items (ap (λ k. k.opening.now) c.learn.ensures.calls) (one_of_names names l.name-index (ended_name arm.arm) at)
+          (learned l.self.calls.now.opening.now c.learn.new.self.calls.now.opening.now names (ended_name arm.arm) l.self.receipts arm.receipts
+          c.learn.new.self.receipts (ap (λ k. k.opening.now) c.learn.ensures.calls) (one_of_names names l.name-index (ended_name arm.arm) at)
           c.in_ok-arm-in-Some.ensures.receipts arm.own arm.commits);
       count = ap length c.push_reserved.ensures.items ∙ length_push l.ended.items _ ∙ ap (λ n. n + 1) l.invariant.count;
       room = search rules;

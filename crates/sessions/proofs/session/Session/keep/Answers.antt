@@ -11,6 +11,6 @@ invariant_of-self g c =
     let given = subst (λ r. IfOk r (λ a. IsAnsweredFrom g.K.OfRun.opening old.last_seen step a.answer a.receipt a.seen)) c.in-Ok.is c.requires.behind.1 in
     record {
       same = old.same;
-      nested = nested_then g.K.OfRun.opening old.receipts.items old.last_seen step a.answer a.receipt a.seen old.nested given c.keep_receipt.new.receipts.items
+      nested = nested_then g.K.OfRun.opening old.receipts old.last_seen step a.answer a.receipt a.seen old.nested given c.keep_receipt.new.receipts
           c.keep_receipt.ensures;
     }

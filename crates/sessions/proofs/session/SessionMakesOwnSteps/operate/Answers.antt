@@ -7,28 +7,28 @@ use Rattle.sessions.proofs.session.SessionMakesOwnSteps.operate.Goals as goal
 
 pub returns-clause-answered : goal.returns-clause-answered
 returns-clause-answered g c =
-    step_answered g.K.OfRun.opening c.args.self.now.opening.now c.keep.new.self.opening.now c.args.self.now.receipts.items
-    c.wait_behind-answered.new.self.receipts.items c.keep.new.self.receipts.items c.args.self.now.last_seen (Op c.args.action.now c.args.object c.args.operation) c.wait_behind-answered.result c.keep.result
+    step_answered g.K.OfRun.opening c.args.self.now.opening.now c.keep.new.self.opening.now c.args.self.now.receipts
+    c.wait_behind-answered.new.self.receipts c.keep.new.self.receipts c.args.self.now.last_seen (Op c.args.action.now c.args.object c.args.operation) c.wait_behind-answered.result c.keep.result
     c.args.self.now.same (c.keep.ensures.opening ∙ c.wait_behind-answered.ensures.opening) c.wait_behind-answered.ensures.receipts c.args.self.now.nested
     c.wait_behind-answered.ensures.answered c.keep.ensures.kept
 
 pub returns-clause-after : goal.returns-clause-after
 returns-clause-after g c =
-    step_after g.K.OfRun.opening c.args.self.now.opening.now c.keep.new.self.opening.now c.args.self.now.receipts.items
-    c.wait_behind-answered.new.self.receipts.items c.keep.new.self.receipts.items c.args.self.now.last_seen (Op c.args.action.now c.args.object c.args.operation) c.wait_behind-answered.result c.keep.result
+    step_after g.K.OfRun.opening c.args.self.now.opening.now c.keep.new.self.opening.now c.args.self.now.receipts
+    c.wait_behind-answered.new.self.receipts c.keep.new.self.receipts c.args.self.now.last_seen (Op c.args.action.now c.args.object c.args.operation) c.wait_behind-answered.result c.keep.result
     c.args.self.now.same (c.keep.ensures.opening ∙ c.wait_behind-answered.ensures.opening) c.wait_behind-answered.ensures.receipts c.args.self.now.nested
     c.wait_behind-answered.ensures.answered c.keep.ensures.kept
 
 pub returns-clause-err : goal.returns-clause-err
 returns-clause-err g c =
-    step_same g.K.OfRun.opening c.args.self.now.opening.now c.keep.new.self.opening.now c.args.self.now.receipts.items
-    c.wait_behind-answered.new.self.receipts.items c.keep.new.self.receipts.items c.args.self.now.last_seen (Op c.args.action.now c.args.object c.args.operation) c.wait_behind-answered.result c.keep.result
+    step_same g.K.OfRun.opening c.args.self.now.opening.now c.keep.new.self.opening.now c.args.self.now.receipts
+    c.wait_behind-answered.new.self.receipts c.keep.new.self.receipts c.args.self.now.last_seen (Op c.args.action.now c.args.object c.args.operation) c.wait_behind-answered.result c.keep.result
     c.args.self.now.same (c.keep.ensures.opening ∙ c.wait_behind-answered.ensures.opening) c.wait_behind-answered.ensures.receipts c.args.self.now.nested
     c.wait_behind-answered.ensures.answered c.keep.ensures.kept
 
 pub returns-clause-waits : goal.returns-clause-waits
 returns-clause-waits g c =
-    kept_gives_up g.U.Patience.over c.wait_behind-answered.result c.keep.result c.wait_behind-answered.new.self.receipts.items c.keep.new.self.receipts.items c.keep.ensures.kept
+    kept_gives_up g.U.Patience.over c.wait_behind-answered.result c.keep.result c.wait_behind-answered.new.self.receipts c.keep.new.self.receipts c.keep.ensures.kept
     c.wait_behind-answered.ensures.waits
 
 pub keep-requires-clause-behind : goal.keep-requires-clause-behind
