@@ -1,21 +1,23 @@
 -- Parts that tell of events, and the runs that end with these.
 use Rattle.std.proofs.Common.{◌≡◌, ◌==◌, ◌+◌, ◌-◌, ◌≤◌, ℕ, zero, suc, Bool, true, false, List, [], ◌∷◌, ◌++◌, Option, Some, None, cond, length, drop, map, refl, ap, ap₂, ◌∙◌, sym, subst, arith}
-use Rattle.std.proofs.lemmas.List.{length-drop}
+use Rattle.std.proofs.lemmas.List.{length-append, length-drop, length-map}
 use Rattle.std.specs.List.{AllByRecursion}
+use Rattle.atomic_table.specs.Seated.{TableId}
 use Rattle.one_run.specs.declared.piece.Piece.{Piece}
-use Rattle.one_run.specs.Pieces.{AllFit, GoesOn, owners, with_seen}
+use Rattle.one_run.specs.declared.run.Part.{Part}
+use Rattle.one_run.specs.Pieces.{AllFit, GoesOn, owner, owners, with_seen}
 use Rattle.one_run.specs.Pieces.GoesOn.{longer, stays}
-use Rattle.one_run.specs.Rules.{told_of}
+use Rattle.one_run.specs.Rules.{Counts, told_of}
 use Rattle.one_run.proofs.Parts.{goes_anywhere}
 use Rattle.run_model.specs.declared.history.Event.{Event}
 use Rattle.run_model.specs.Openings.{Opening}
 use Rattle.run_model.specs.Runs.{IsRun}
 use Rattle.shared_run.specs.Places.{touches}
 use Rattle.locked_run.specs.Behind.{IsBehind}
-use Rattle.locked_run.specs.Receipts.{StandIn, Tells, run_at, run_told, runs_of}
+use Rattle.locked_run.specs.Receipts.{AllTell, StandIn, Tells, run_at, run_told, runs_of}
 use Rattle.locked_run.proofs.Rising.{times}
 use Rattle.locked_run.proofs.Together.{goes_further}
-use Rattle.locked_run.proofs.Whole.{run_before}
+use Rattle.locked_run.proofs.Whole.{longer_seen, run_before, stand_few, whole_at}
 
 dropped : (k : ℕ) (seen : List Event) → IsBehind (drop k seen) seen
 dropped zero seen = stays
@@ -75,7 +77,7 @@ module _ {opening : Opening} {owns : Bool} where
   all_seen past (x ∷ xs) r all f =
       let t = all.0 in
       let last = t.last in
-      let more = Rattle.locked_run.proofs.Whole.longer_seen f.0 in (
+      let more = longer_seen f.0 in (
         record { number = t.number; first = t.first; last = omega arith; run = r; is = ap (λ (y : Piece Event). record y { seen = past }) t.is },
         all_seen past xs r all.1 f.1,
       )
@@ -107,3 +109,71 @@ module _ {opening : Opening} where
     each = each_behind past v all f;
     once = λ n. let same = owners_are n v all in let one = once n in omega arith;
   }
+
+seen_length : (past : List Event) (v : List (Piece Event)) → length (with_seen past v) ≡ length v
+seen_length past [] = refl
+seen_length past (x ∷ xs) = ap suc (seen_length past xs)
+
+-- ---- parts that were taken in, and have looked at the run since
+
+module _ {opening : Opening} {table : TableId} {v rs all w : List (Piece Event)} {n : ℕ} (joined : all ≡ v ++ rs) (one : AllByRecursion (Tells opening true) v)
+    (other : AllByRecursion (Tells opening true) rs) (counts : Counts (IsRun opening) touches all n w) where
+  both : AllByRecursion (Tells opening true) all
+  both = subst (λ u. AllByRecursion (Tells opening true) u) (sym joined) (all_append (Tells opening true) v rs one other)
+
+  pub taken_tell : (part : Part Event) → part.token.table_id ≡ table → part.token.me.0 ≡ w → AllTell opening table true part
+  taken_tell part of_table is = record {
+    of_table = of_table;
+    each = subst (λ u. AllByRecursion (Tells opening true) u) (sym (is ∙ counts.seen)) (all_seen counts.past all counts.run both counts.fits);
+  }
+
+  pub taken_runs : runs_of w ≡ runs_of v ++ runs_of rs
+  taken_runs = ap runs_of counts.seen ∙ runs_seen counts.past all both counts.fits ∙ ap runs_of joined ∙ runs_append v rs
+
+  pub taken_length : length w ≡ length v + length rs
+  taken_length = ap length counts.seen ∙ seen_length counts.past all ∙ ap length joined ∙ length-append v rs
+
+  -- they are no more than the run has events
+  pub taken_few : length v + length rs ≤ n
+  taken_few =
+      let less = stand_few counts.past (runs_of all) (stand_in counts.past all both counts.fits counts.owned) in
+      let many : length (runs_of all) ≡ length all = length-map all (λ x. run_told x.event x.seen) in
+      let parts : length all ≡ length v + length rs = ap length joined ∙ length-append v rs in
+      let number = counts.number in
+      omega arith
+
+-- a receipt's part
+pub owner_tells : {opening : Opening} {table : TableId} (part : Part Event) (run : List Event) → part.token.table_id ≡ table
+    → part.token.me.0 ≡ owner (length run) run ∷ [] → IsRun opening run → 1 ≤ length run → AllTell opening table true part
+owner_tells {opening} part run of_table is r first = record {
+  of_table = of_table;
+  each = subst (λ u. AllByRecursion (Tells opening true) u) (sym is) (record { number = length run; first = first; last = omega arith; run = r; is = refl }, tt);
+}
+
+pub owner_run : (v : List (Piece Event)) (run : List Event) → v ≡ owner (length run) run ∷ [] → runs_of v ≡ run ∷ []
+owner_run v run is = ap runs_of is ∙ ap (λ l. l ∷ []) (whole_at run)
+
+-- what tells of events has told them
+pub told_tell : {opening : Opening} {table : TableId} {owns : Bool} (old new : Part Event) → AllTell opening table owns old → new.token.table_id ≡ table
+    → new.token.me.0 ≡ told_of old.token.me.0 → AllTell opening table false new
+told_tell {opening} old new tell of_table is = record {
+  of_table = of_table;
+  each = subst (λ u. AllByRecursion (Tells opening false) u) (sym is) (all_told old.token.me.0 tell.each);
+}
+
+pub same_tell : {opening : Opening} {table : TableId} {owns : Bool} (old new : Part Event) → AllTell opening table owns old → new.token.table_id ≡ table
+    → new.token.me.0 ≡ old.token.me.0 → AllTell opening table owns new
+same_tell {opening} {owns = owns} old new tell of_table is = record {
+  of_table = of_table;
+  each = subst (λ u. AllByRecursion (Tells opening owns) u) (sym is) tell.each;
+}
+
+pub joined_tell : {opening : Opening} {table : TableId} {owns : Bool} (one other new : Part Event) → AllTell opening table owns one → AllTell opening table owns other
+    → new.token.table_id ≡ table → new.token.me.0 ≡ one.token.me.0 ++ other.token.me.0 → AllTell opening table owns new
+joined_tell {opening} {owns = owns} one other new first second of_table is = record {
+  of_table = of_table;
+  each = subst (λ u. AllByRecursion (Tells opening owns) u) (sym is) (all_append (Tells opening owns) one.token.me.0 other.token.me.0 first.each second.each);
+}
+
+pub none_tell : {opening : Opening} {table : TableId} {owns : Bool} (part : Part Event) → part.token.table_id ≡ table → part.token.me.0 ≡ [] → AllTell opening table owns part
+none_tell {opening} {owns = owns} part of_table is = record { of_table = of_table; each = subst (λ u. AllByRecursion (Tells opening owns) u) (sym is) tt }

@@ -119,7 +119,7 @@ run_before n le (longer {past = past} e quiet rest) =
     let more : length (e ∷ past) - n ≡ suc (length past - n) = omega arith in
     ap (λ k. drop k (e ∷ past)) more ∙ run_before n le rest
 
-whole_at : (past : List Event) → run_at (length past) past ≡ past
+pub whole_at : (past : List Event) → run_at (length past) past ≡ past
 whole_at past = let none : length past - length past ≡ 0 = omega arith in ap (λ k. drop k past) none
 
 one_more : (m : ℕ) (e : Event) (past : List Event) → m ≤ length past → map (λ n. run_at n (e ∷ past)) (down m) ≡ map (λ n. run_at n past) (down m)
