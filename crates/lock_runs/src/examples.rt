@@ -12,7 +12,7 @@ use guardian::Guardian;
 use registry::Registry;
 use rows::{Row, RowFault, Subject};
 use run_model::{Answer, Step};
-use runtime::{Gate, OfRun, OpenGate, Receipt, Start};
+use runtime::{Gate, OfRun, OpenGate, Receipts, Start};
 use stable_store::PlainStable;
 use std::alloc::{AllocError, Global};
 use std::marker::Brand;
@@ -108,7 +108,7 @@ fn listed<K: OfRun, H: Wait>(
         (λ g. seen_of plain_view g) (StandsIn registry) K.opening [] guardians.items }
 {
     let runtime = Threaded::<K, OpenGate>::new(alloc, start, registry, guardians, OpenGate)?;
-    let mut receipts = Vec::new(alloc);
+    let mut receipts = runtime.no_receipts();
     let answers = make_all(alloc, rt, &runtime, steps, &mut receipts);
     end(runtime, receipts)?;
     answers
@@ -120,7 +120,7 @@ pub(crate) fn make_all<K: OfRun, P: Gate, H: Wait>(
     rt: &H,
     runtime: &Threaded<K, P>,
     steps: &[Step],
-    receipts: &mut Vec<Receipt<K>>,
+    receipts: &mut Receipts<K>,
 ) -> Result<Vec<Answer>, RowFault> {
     let mut answers = Vec::new(alloc);
     for step in steps {

@@ -13,7 +13,7 @@ use guardian::Guardian;
 use registry::Registry;
 use rows::RowFault;
 use run_model::{Answer, Step};
-use runtime::{Answered, Gate, OfRun, Receipt, Start};
+use runtime::{Answered, Gate, OfRun, Receipts, Start};
 use stable_store::PlainStable;
 use std::alloc::Global;
 use std::marker::Brand;
@@ -84,7 +84,7 @@ fn meet_in<K: OfRun + Send + Sync, H: Threads + Wait + Sync>(
         (λ g. seen_of plain_view g) (StandsIn registry) K.opening [] guardians.items }
 {
     let runtime = Threaded::<K, &Meeting>::new(alloc, start, registry, guardians, meeting)?;
-    let mut receipts = Vec::new(alloc);
+    let mut receipts = runtime.no_receipts();
     let granted = meet(alloc, rt, &runtime, every, meeting, &mut receipts);
     end(runtime, receipts)?;
     granted
@@ -97,7 +97,7 @@ fn meet<K: OfRun + Send + Sync, H: Threads + Wait + Sync>(
     runtime: &Threaded<K, &Meeting>,
     every: u32,
     meeting: &Meeting,
-    receipts: &mut Vec<Receipt<K>>,
+    receipts: &mut Receipts<K>,
 ) -> Result<bool, RowFault> {
     let operations = begun(alloc, rt, runtime, every, receipts)?;
     meeting.is_on.store(true, Ordering::SeqCst);
@@ -108,7 +108,7 @@ fn meet<K: OfRun + Send + Sync, H: Threads + Wait + Sync>(
         steps.len(),
         &|index| { answered(runtime.step(rt, &steps[index])) },
     )?;
-    all_granted(given, receipts)
+    all_granted(runtime, given, receipts)
 }
 
 /// Begins a top action at each of the guardians, and gives an operation of each.
@@ -117,7 +117,7 @@ fn begun<K: OfRun, P: Gate, H: Wait>(
     rt: &H,
     runtime: &Threaded<K, P>,
     every: u32,
-    receipts: &mut Vec<Receipt<K>>,
+    receipts: &mut Receipts<K>,
 ) -> Result<Vec<Step>, RowFault> {
     let mut operations = Vec::new(alloc);
     for place in 1..=SIZE {
@@ -129,13 +129,14 @@ fn begun<K: OfRun, P: Gate, H: Wait>(
 }
 
 /// Whether all operations were granted. Their receipts are kept.
-fn all_granted<K: OfRun>(
+fn all_granted<K: OfRun, P: Gate>(
+    runtime: &Threaded<K, P>,
     given: Vec<Result<Answered<K>, RowFault>>,
-    receipts: &mut Vec<Receipt<K>>,
+    receipts: &mut Receipts<K>,
 ) -> Result<bool, RowFault> {
     let mut all = true;
     for one in given {
-        let answer = kept(one?, receipts)?;
+        let answer = kept(runtime, one?, receipts);
         all = all && answer.is_accepted();
     }
     Ok(all)

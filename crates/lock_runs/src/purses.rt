@@ -8,10 +8,10 @@ ghost use Rattle.registry.specs.Registries.{StandsIn};
 ghost use Rattle.world_steps.specs.Standings.{IsWorld};
 ghost use Rattle.world.specs.Worlds.{seen_of};
 
-use crate::runs::{Parts, Threaded, append, end, opened, setup_of};
+use crate::runs::{Parts, Threaded, end, opened, setup_of};
 use rows::RowFault;
 use run_model::{ObjectId, Op, Opening, Reply, Value};
-use runtime::{Endless, OfRun, OpenGate, Receipt};
+use runtime::{Endless, OfRun, OpenGate, Receipts};
 use service::{Begun, CallFault, Cause, Outcome, Service, Transacted, Transaction, Work};
 use sessions::Session;
 use std::alloc::Global;
@@ -150,7 +150,7 @@ fn counted_in<K: OfRun + Send + Sync, H: Threads + Wait + Sync>(
         guardians,
     } = parts;
     let runtime = Threaded::<K, OpenGate>::new(alloc, start, registry, guardians, OpenGate)?;
-    let mut receipts = Vec::new(alloc);
+    let mut receipts = runtime.no_receipts();
     let counted = moved_and_counted(alloc, rt, &runtime, &opening, &mut receipts);
     end(runtime, receipts)?;
     Ok(counted? == COINS)
@@ -162,7 +162,7 @@ fn moved_and_counted<K: OfRun + Send + Sync, H: Threads + Wait + Sync>(
     rt: &H,
     runtime: &Threaded<K, OpenGate>,
     opening: &Opening,
-    receipts: &mut Vec<Receipt<K>>,
+    receipts: &mut Receipts<K>,
 ) -> Result<i64, RowFault>
     requires { opening_in opening.now ≡ K.opening }
 {
@@ -176,7 +176,7 @@ fn moved_and_counted<K: OfRun + Send + Sync, H: Threads + Wait + Sync>(
         { move_all(alloc, rt, runtime, opening, index as u32) },
     )?;
     for one in moved {
-        append(receipts, one?)?;
+        runtime.join_receipts(receipts, one?);
     }
     count_all(alloc, rt, runtime, opening, receipts)
 }
@@ -188,7 +188,7 @@ fn move_all<K: OfRun, H: Wait>(
     runtime: &Threaded<K, OpenGate>,
     opening: &Opening,
     index: u32,
-) -> Result<Vec<Receipt<K>>, RowFault>
+) -> Result<Receipts<K>, RowFault>
     requires { opening_in opening.now ≡ K.opening }
 {
     let mut service = Service::over(Session::new(rt, runtime, opening, &Endless));
@@ -214,7 +214,7 @@ fn count_all<K: OfRun, H: Wait>(
     rt: &H,
     runtime: &Threaded<K, OpenGate>,
     opening: &Opening,
-    receipts: &mut Vec<Receipt<K>>,
+    receipts: &mut Receipts<K>,
 ) -> Result<i64, RowFault>
     requires { opening_in opening.now ≡ K.opening }
 {
@@ -231,6 +231,6 @@ fn count_all<K: OfRun, H: Wait>(
             Outcome::Aborted(_) => return Err(RowFault::Unread),
         }
     }
-    append(receipts, service.world.into_receipts())?;
+    runtime.join_receipts(receipts, service.world.into_receipts());
     Ok(all)
 }

@@ -14,7 +14,7 @@ use layer_contracts::Fault;
 use registry::Registry;
 use rows::RowFault;
 use run_model::{Answer, Op, Opening, Setup, SetupFault, Step};
-use runtime::{Answered, CloseFault, Ends, Gate, OfRun, Receipt, Runtime, Start, StepFault};
+use runtime::{Answered, CloseFault, Ends, Gate, OfRun, Receipts, Runtime, Start, StepFault};
 use stable_store::PlainStable;
 use std::alloc::{AllocError, Global};
 use std::sync::{Arc, Wait};
@@ -29,7 +29,7 @@ type Unclosed<K> = CloseFault<K, Registry, Guardian<PlainStable>>;
 /// Ends a run, which these receipts have to close.
 pub(crate) fn end<K: OfRun, P: Gate>(
     runtime: Threaded<K, P>,
-    receipts: Vec<Receipt<K>>,
+    receipts: Receipts<K>,
 ) -> Result<(), RowFault> {
     let ended = runtime.close_all(receipts);
     how_closed(&ended)
@@ -188,23 +188,24 @@ pub(crate) fn made<K: OfRun, P: Gate, H: Wait>(
     runtime: &Threaded<K, P>,
     rt: &H,
     step: &Step,
-    receipts: &mut Vec<Receipt<K>>,
+    receipts: &mut Receipts<K>,
 ) -> Result<Answer, RowFault> {
-    kept(answered(runtime.step(rt, step))?, receipts)
+    Ok(kept(runtime, answered(runtime.step(rt, step))?, receipts))
 }
 
 /// The answer; its receipt is kept.
-pub(crate) fn kept<K: OfRun>(
+pub(crate) fn kept<K: OfRun, P: Gate>(
+    runtime: &Threaded<K, P>,
     given: Answered<K>,
-    receipts: &mut Vec<Receipt<K>>,
-) -> Result<Answer, RowFault> {
+    receipts: &mut Receipts<K>,
+) -> Answer {
     let Answered {
         answer,
         receipt,
         seen: _,
     } = given;
     if let Some(receipt) = receipt {
-        push(receipts, receipt)?;
+        runtime.add_receipt(receipts, receipt);
     }
-    Ok(answer)
+    answer
 }

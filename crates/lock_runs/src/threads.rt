@@ -14,7 +14,7 @@ use guardian::Guardian;
 use registry::Registry;
 use rows::RowFault;
 use run_model::{Answer, Step};
-use runtime::{Answered, OfRun, OpenGate, Receipt, Start};
+use runtime::{Answered, OfRun, OpenGate, Receipts, Start};
 use stable_store::PlainStable;
 use std::alloc::Global;
 use std::marker::Brand;
@@ -90,7 +90,7 @@ fn all_in<K: OfRun + Send + Sync, H: Threads + Wait + Sync>(
         (λ g. seen_of plain_view g) (StandsIn registry) K.opening [] guardians.items }
 {
     let runtime = Threaded::<K, OpenGate>::new(alloc, start, registry, guardians, OpenGate)?;
-    let mut receipts = Vec::new(alloc);
+    let mut receipts = runtime.no_receipts();
     let made = all_walk(alloc, rt, &runtime, walkers, &mut receipts);
     end(runtime, receipts)?;
     made
@@ -102,7 +102,7 @@ fn all_walk<K: OfRun + Send + Sync, H: Threads + Wait + Sync>(
     rt: &H,
     runtime: &Threaded<K, OpenGate>,
     walkers: Walkers,
-    receipts: &mut Vec<Receipt<K>>,
+    receipts: &mut Receipts<K>,
 ) -> Result<Vec<Made>, RowFault> {
     let walked = map_indices(
         rt,
@@ -120,7 +120,7 @@ fn all_walk<K: OfRun + Send + Sync, H: Threads + Wait + Sync>(
             receipts: others,
         } = one?;
         append(&mut made, more)?;
-        append(receipts, others)?;
+        runtime.join_receipts(receipts, others);
     }
     Ok(made)
 }
@@ -129,7 +129,7 @@ fn all_walk<K: OfRun + Send + Sync, H: Threads + Wait + Sync>(
 #[derive(Drop)]
 struct Walked<K: OfRun> {
     made: Vec<Made>,
-    receipts: Vec<Receipt<K>>,
+    receipts: Receipts<K>,
 }
 
 /// Makes so many steps at random, and gives those that were accepted.
@@ -142,7 +142,7 @@ fn walk<K: OfRun, H: Wait>(
 ) -> Result<Walked<K>, RowFault> {
     let mut walked = Walked {
         made: Vec::new(alloc),
-        receipts: Vec::new(alloc),
+        receipts: runtime.no_receipts(),
     };
     let mut walk = Walk::new(alloc, seed);
     for _ in 0..count {
@@ -160,11 +160,12 @@ fn go_on<K: OfRun, H: Wait>(
 ) -> Result<(), RowFault> {
     let step = walk.next_step()?;
     let given = answered(runtime.step(rt, &step))?;
-    keep(walk, walked, step, given)
+    keep(runtime, walk, walked, step, given)
 }
 
 /// Notes what a step began, and keeps the step if it was accepted.
 fn keep<K: OfRun>(
+    runtime: &Threaded<K, OpenGate>,
     walk: &mut Walk,
     walked: &mut Walked<K>,
     step: Step,
@@ -178,7 +179,7 @@ fn keep<K: OfRun>(
     } = given;
     if let Some(receipt) = receipt {
         let number = receipt.number();
-        push(&mut walked.receipts, receipt)?;
+        runtime.add_receipt(&mut walked.receipts, receipt);
         push(
             &mut walked.made,
             Made {

@@ -115,7 +115,7 @@ fn listed_in<K: OfRun, H: Wait + Clock>(
         (λ g. seen_of plain_view g) (StandsIn registry) K.opening [] guardians.items }
 {
     let runtime = Threaded::<K, OpenGate>::new(alloc, start, registry, guardians, OpenGate)?;
-    let mut receipts = Vec::new(alloc);
+    let mut receipts = runtime.no_receipts();
     let begun = Instant::now(rt);
     let made = make_all(alloc, rt, &runtime, steps, &mut receipts);
     let taken = since(rt, begun);
@@ -166,8 +166,8 @@ fn workers_in<K: OfRun + Send + Sync, H: Threads + Wait + Sync + Clock>(
     let begun = Instant::now(rt);
     let worked = all_work(alloc, rt, &runtime, workers);
     let taken = since(rt, begun);
-    let mut receipts = Vec::new(alloc);
-    let gathered = gather(worked, &mut receipts);
+    let mut receipts = runtime.no_receipts();
+    let gathered = gather(&runtime, worked, &mut receipts);
     end(runtime, receipts)?;
     gathered?;
     taken

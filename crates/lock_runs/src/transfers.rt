@@ -2,11 +2,11 @@
 
 ghost use Rattle.std.specs.Prelude.{◌<◌};
 
-use crate::runs::{Threaded, append, first_begun, made, operation, push};
+use crate::runs::{Threaded, first_begun, made, operation, push};
 use action_names::Name;
 use rows::RowFault;
 use run_model::{Answer, ObjectId, Op, Step};
-use runtime::{OfRun, OpenGate, Receipt};
+use runtime::{OfRun, OpenGate, Receipts};
 use std::alloc::{AllocError, Global};
 use std::sync::Wait;
 use std::thread::{Threads, map_indices};
@@ -27,7 +27,7 @@ pub(crate) trait Steps {
 pub(crate) struct Caller<'a, K: OfRun, H> {
     pub(crate) rt: &'a H,
     pub(crate) runtime: &'a Threaded<K, OpenGate>,
-    pub(crate) receipts: Vec<Receipt<K>>,
+    pub(crate) receipts: Receipts<K>,
 }
 
 impl<'a, K: OfRun, H: Wait> Steps for Caller<'a, K, H> {
@@ -75,7 +75,7 @@ pub(crate) struct Workers {
 }
 
 /// What came of one thread's work: its receipts.
-pub(crate) type Worked<K> = Result<Vec<Receipt<K>>, RowFault>;
+pub(crate) type Worked<K> = Result<Receipts<K>, RowFault>;
 
 /// The work of all threads.
 pub(crate) fn all_work<K: OfRun + Send + Sync, H: Threads + Wait + Sync>(
@@ -94,11 +94,12 @@ pub(crate) fn all_work<K: OfRun + Send + Sync, H: Threads + Wait + Sync>(
 
 /// Keeps the receipts of all threads.
 pub(crate) fn gather<K: OfRun>(
+    runtime: &Threaded<K, OpenGate>,
     worked: Result<Vec<Worked<K>>, AllocError>,
-    receipts: &mut Vec<Receipt<K>>,
+    receipts: &mut Receipts<K>,
 ) -> Result<(), RowFault> {
     for one in worked? {
-        append(receipts, one?)?;
+        runtime.join_receipts(receipts, one?);
     }
     Ok(())
 }
@@ -110,11 +111,11 @@ fn by_one<K: OfRun, H: Wait>(
     runtime: &Threaded<K, OpenGate>,
     workers: Workers,
     index: u32,
-) -> Result<Vec<Receipt<K>>, RowFault> {
+) -> Result<Receipts<K>, RowFault> {
     let mut caller = Caller {
         rt,
         runtime,
-        receipts: Vec::new(alloc),
+        receipts: runtime.no_receipts(),
     };
     let share = Share {
         index,

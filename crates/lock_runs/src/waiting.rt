@@ -9,14 +9,14 @@ ghost use Rattle.world_steps.specs.Standings.{IsWorld};
 ghost use Rattle.world.specs.Worlds.{seen_of};
 
 use crate::runs::{
-    Threaded, answered, append, end, first_begun, kept, made, operation, setup_of, started,
+    Threaded, answered, end, first_begun, kept, made, operation, setup_of, started,
 };
 use action_names::Name;
 use guardian::Guardian;
 use registry::Registry;
 use rows::RowFault;
 use run_model::{Answer, ObjectId, Op, Step};
-use runtime::{OfRun, OpenGate, Receipt, Start};
+use runtime::{OfRun, OpenGate, Receipts, Start};
 use stable_store::PlainStable;
 use std::alloc::Global;
 use std::marker::Brand;
@@ -55,7 +55,7 @@ fn both_in<K: OfRun + Send + Sync, H: Threads + Wait + Sync>(
         (λ g. seen_of plain_view g) (StandsIn registry) K.opening [] guardians.items }
 {
     let runtime = Threaded::<K, OpenGate>::new(alloc, start, registry, guardians, OpenGate)?;
-    let mut receipts = Vec::new(alloc);
+    let mut receipts = runtime.no_receipts();
     let granted = both_write(alloc, rt, &runtime, &mut receipts);
     end(runtime, receipts)?;
     granted
@@ -66,15 +66,15 @@ fn both_write<K: OfRun + Send + Sync, H: Threads + Wait + Sync>(
     alloc: Global,
     rt: &H,
     runtime: &Threaded<K, OpenGate>,
-    receipts: &mut Vec<Receipt<K>>,
+    receipts: &mut Receipts<K>,
 ) -> Result<bool, RowFault> {
-    let mut others = Vec::new(alloc);
+    let mut others = runtime.no_receipts();
     let (one, other) = join(
         rt,
         || writes(alloc, rt, runtime, receipts),
         || writes(alloc, rt, runtime, &mut others),
     );
-    append(receipts, others)?;
+    runtime.join_receipts(receipts, others);
     Ok(one? && other?)
 }
 
@@ -83,7 +83,7 @@ fn writes<K: OfRun, H: Wait>(
     alloc: Global,
     rt: &H,
     runtime: &Threaded<K, OpenGate>,
-    receipts: &mut Vec<Receipt<K>>,
+    receipts: &mut Receipts<K>,
 ) -> Result<bool, RowFault> {
     let write = operation(alloc, "op 1 1/1 set a 1")?;
     for _ in 0..ROUNDS {
@@ -99,7 +99,7 @@ fn writes_once<K: OfRun, H: Wait>(
     rt: &H,
     runtime: &Threaded<K, OpenGate>,
     write: &Op,
-    receipts: &mut Vec<Receipt<K>>,
+    receipts: &mut Receipts<K>,
 ) -> Result<bool, RowFault> {
     let top = begun(rt, runtime, receipts)?;
     let granted = is_granted(rt, runtime, &top, write, receipts)?;
@@ -111,7 +111,7 @@ fn writes_once<K: OfRun, H: Wait>(
 fn begun<K: OfRun, H: Wait>(
     rt: &H,
     runtime: &Threaded<K, OpenGate>,
-    receipts: &mut Vec<Receipt<K>>,
+    receipts: &mut Receipts<K>,
 ) -> Result<Name, RowFault> {
     first_begun(&made(runtime, rt, &Step::Top(1), receipts)?)
 }
@@ -120,7 +120,7 @@ fn aborted<K: OfRun, H: Wait>(
     rt: &H,
     runtime: &Threaded<K, OpenGate>,
     top: &Name,
-    receipts: &mut Vec<Receipt<K>>,
+    receipts: &mut Receipts<K>,
 ) -> Result<(), RowFault> {
     made(runtime, rt, &Step::Abort(top.copy()?), receipts)?;
     Ok(())
@@ -130,7 +130,7 @@ fn told<K: OfRun, H: Wait>(
     rt: &H,
     runtime: &Threaded<K, OpenGate>,
     top: Name,
-    receipts: &mut Vec<Receipt<K>>,
+    receipts: &mut Receipts<K>,
 ) -> Result<(), RowFault> {
     made(runtime, rt, &Step::Tell(1, top), receipts)?;
     Ok(())
@@ -142,8 +142,8 @@ fn is_granted<K: OfRun, H: Wait>(
     runtime: &Threaded<K, OpenGate>,
     top: &Name,
     write: &Op,
-    receipts: &mut Vec<Receipt<K>>,
+    receipts: &mut Receipts<K>,
 ) -> Result<bool, RowFault> {
     let given = answered(runtime.op_wait(rt, top, OBJECT, write, &[]))?;
-    Ok(matches!(kept(given, receipts)?, Answer::Granted(_)))
+    Ok(matches!(kept(runtime, given, receipts), Answer::Granted(_)))
 }

@@ -166,7 +166,8 @@ fn in_run<K: OfRun + Send + Sync, H: Threads + Wait + Sync, C: Wait + Clock + Ep
     let (ends, receipts) = match run_within(alloc, rt, watcher, &runtime, &opening, script) {
         Ok(ran) => ran,
         Err(fault) => {
-            let _ = runtime.close_all(Vec::new(alloc));
+            let none = runtime.no_receipts();
+            let _ = runtime.close_all(none);
             return Err(fault);
         }
     };

@@ -121,7 +121,8 @@ fn meet_in<K: OfRun + Send + Sync, H: Threads + Wait + Sync>(
             Ok(matches!(ends.first(), Some(ClientEnd::Committed { .. })))
         }
         Err(fault) => {
-            let _ = runtime.close_all(Vec::new(alloc));
+            let none = runtime.no_receipts();
+            let _ = runtime.close_all(none);
             Err(fault_of(fault))
         }
     }
