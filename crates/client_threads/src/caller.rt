@@ -135,9 +135,7 @@ impl<'a, K: OfRun, S: OfScript, R: Forest, G: Guardian, P: Gate, H: Wait> Caller
                 } = answered;
                 if let Some(receipt) = receipt {
                     self.calls.watch.note_step();
-                    self.calls
-                        .runtime
-                        .add_receipt(&mut self.receipts, receipt);
+                    self.calls.runtime.add_receipt(&mut self.receipts, receipt);
                 }
                 Ok(answer)
             }

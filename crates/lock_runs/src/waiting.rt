@@ -8,9 +8,7 @@ ghost use Rattle.registry.specs.Registries.{StandsIn};
 ghost use Rattle.world_steps.specs.Standings.{IsWorld};
 ghost use Rattle.world.specs.Worlds.{seen_of};
 
-use crate::runs::{
-    Threaded, answered, end, first_begun, kept, made, operation, setup_of, started,
-};
+use crate::runs::{Threaded, answered, end, first_begun, kept, made, operation, setup_of, started};
 use action_names::Name;
 use guardian::Guardian;
 use registry::Registry;

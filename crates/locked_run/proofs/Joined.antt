@@ -55,8 +55,8 @@ counted_with opening v w rs all n is tell counts =
       run = counts.run;
       fits = fit_front counts.past v rs fits;
       stand = stand_in counts.past rs tell (fit_back counts.past v rs fits) (λ k.
-      let whole : owners k all ≡ owners k (v ++ rs) = ap (λ u. owners k u) is in
-      let both = owners_append k v rs in
-      let one = counts.owned k in
-      omega arith);
+          let whole : owners k all ≡ owners k (v ++ rs) = ap (λ u. owners k u) is in
+          let both = owners_append k v rs in
+          let one = counts.owned k in
+          omega arith);
     }

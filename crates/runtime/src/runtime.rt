@@ -21,8 +21,8 @@ use crate::place::Place;
 use crate::waiting::sleeps;
 use layer_contracts::{Forest, Guardian};
 use locked_run::{
-    CloseFault, Ends, Held, HeldRegistry, Known, OfRun, Receipt, Receipts, Seen, Shared, Start, begin,
-    close_all,
+    CloseFault, Ends, Held, HeldRegistry, Known, OfRun, Receipt, Receipts, Seen, Shared, Start,
+    begin, close_all,
 };
 use run_model::{Name, ObjectId, Op, Step};
 use std::alloc::{AllocError, Global};
