@@ -1,7 +1,9 @@
+pub mod Arms
 pub mod Calling
 pub mod Ending
 pub mod Opening
 pub mod Outcomes
 pub mod Retrying
+pub mod Together
 pub mod Transacting
 pub mod Working

@@ -12,7 +12,7 @@ use Rattle.run_model.specs.Openings.{opening_in}
 use Rattle.run_model.specs.Runs.{World, history_from, is_accepted, world_after}
 use Rattle.run_model.specs.Telling.{told_since_crash}
 use Rattle.run_model.specs.Votes.{has_voted}
-use Rattle.stepping.specs.Beside.{IsAnsweredTo, Sees, SeesOwn}
+use Rattle.stepping.specs.Beside.{IsAnsweredTo, IsPartOf, Sees, SeesOwn}
 use Rattle.service.specs.Calling.{ComesToNothing}
 use Rattle.service.specs.Outcomes.{has_committed}
 use Rattle.service.specs.declared.fault.CallFault.{CallFault}
@@ -28,10 +28,12 @@ use Rattle.service.specs.declared.place.Place.{Place}
 abbrev pub is_below : Name → Name → Bool
 is_below a b = is_prefix a b && not (is_prefix b a)
 
--- a step of work in an action: it calls, operates and begins top actions there and below, and ends only what is below
+-- a step of work in an action: it calls, operates and begins arms and top actions there and below, and ends only what
+-- is below
 abbrev pub works_in : Name → Step → Bool
 works_in a (steps.NestedTop b) = is_prefix a b
 works_in a (steps.Call b g) = is_prefix a b
+works_in a (steps.Arms b kinds) = is_prefix a b
 works_in a (steps.Op b x wanted) = is_prefix a b
 works_in a (steps.Commit b) = is_below a b
 works_in a (steps.Abort b) = is_below a b
@@ -112,12 +114,22 @@ pub record Began (t : Name) (old new : World) : Type 0 where
 abbrev pub AllBegan : List Name → World → World → Type 0
 AllBegan tops old new = (t : Name) → has_name tops t ≡ true → Began t old new
 
--- the step begins an action at this guardian, if its maker began there in case of a nested top action
+-- the step begins actions at this guardian, if its maker began there in case of a nested top action and of arms
 abbrev pub begins_at : Step → ℕ → (Name → Bool) → Bool
 begins_at (steps.Top h) g there = h == g
 begins_at (steps.NestedTop b) g there = there b
 begins_at (steps.Call b h) g there = h == g
+begins_at (steps.Arms b kinds) g there = there b
 begins_at _ g there = false
+
+abbrev pub is_arms : Step → Bool
+is_arms (steps.Arms b kinds) = true
+is_arms _ = false
+
+-- the last of these events began arms
+abbrev pub begins_arms : List Event → Bool
+begins_arms [] = false
+begins_arms (e ∷ past) = is_arms e.step
 
 -- b began at this guardian
 abbrev pub began_at : ℕ → Name → List Event → Bool
@@ -186,9 +198,8 @@ module _ (sees : Sees) where
     pub past : new.past ≡ later ++ old.past
     pub own : AreOwn mine old later
 
-  -- Of these steps one of this kind came to nothing, for this reason.
-  pub record CameToNothing (mine kind : Step → Bool) (old new : World)
-      (fault : CallFault) : Type 0 where
+  -- At the caller's own run, one of these steps, of this kind, came to nothing for this reason.
+  pub record StopsAt (mine kind : Step → Bool) (old new : World) (fault : CallFault) : Type 0 where
     pub before : World
     pub first : Goes mine old before
     pub step : Step
@@ -196,6 +207,18 @@ module _ (sees : Sees) where
     pub of_kind : kind step ≡ true
     pub why : ComesToNothing sees before step fault
     pub more : Goes mine before new
+
+  -- Of these steps one of this kind came to nothing, for this reason: at the caller's own run, or in an arm. The arm's
+  -- run went on from that at which arms began, and what it did is a part of what the caller then went on by. Who runs
+  -- no arms has only the first.
+  pub data CameToNothing (mine kind : Step → Bool) : World → World → CallFault → Type 0 where
+    by_itself : {old new : World} {fault : CallFault} → StopsAt mine kind old new fault
+        → CameToNothing mine kind old new fault
+    in_arm : {old new : World} {fault : CallFault} (begun arm joined : World)
+        → Goes mine old begun → begins_arms begun.past ≡ true
+        → (inside : Goes mine begun arm) → CameToNothing mine kind begun arm fault
+        → (both : Goes mine begun joined) → IsPartOf inside.later both.later
+        → Goes mine joined new → CameToNothing mine kind old new fault
 
   -- one that was to settle something did
   abbrev pub FallsShort : (Step → Bool) → World → World → CallFault → Type 0

@@ -6,6 +6,7 @@
 ghost use Rattle.service.specs.Transacting.{GoesByItself};
 
 mod answered;
+mod arms;
 mod fault;
 mod nested;
 mod operations;
@@ -14,10 +15,12 @@ mod place;
 mod retrying;
 mod service;
 mod subactions;
+mod together;
 mod top;
 mod transacting;
 mod transaction;
 
+pub use arms::{Arm, RunsArms};
 pub use fault::CallFault;
 pub use operations::{change, get, is, set, value_of};
 pub use outcome::{Cause, Outcome, Transacted};

@@ -1,5 +1,7 @@
 //! Actions in which a transaction is at work.
-ghost use Rattle.std.specs.Prelude.{◌≡◌, ◌∷◌, [], true, IfOk};
+ghost use Rattle.std.specs.Prelude.{◌≡◌, ◌+◌, ◌≤◌, ◌∷◌, [], true, IfOk, vec_capacity, vec_len};
+ghost use Rattle.std.specs.Option.{option_or};
+ghost use Rattle.service.specs.Together.{HasRoomAgain};
 ghost use Rattle.service.specs.Transacting.{Includes, has_number};
 
 use crate::fault::CallFault;
@@ -29,6 +31,33 @@ impl Place {
         self.left = left;
     }
 
+    /// Takes over what two arms left, and the guardians that each of them reached which committed. Such an arm's list
+    /// has room for as many again.
+    pub(crate) fn join(
+        &mut self,
+        one: Place,
+        one_committed: bool,
+        other: Place,
+        other_committed: bool,
+    )
+        requires one { Includes self.old.reached.items one.reached.items }
+        requires other { Includes self.old.reached.items other.reached.items }
+        requires one_room { one_committed ≡ true → HasRoomAgain one.reached }
+        requires other_room { other_committed ≡ true → HasRoomAgain other.reached }
+        ensures left { self.new.left ≡ option_or (option_or self.old.left one.left) other.left }
+        ensures action { self.new.action ≡ self.old.action }
+        ensures home { self.new.home ≡ self.old.home }
+        ensures reached { Includes self.old.reached.items self.new.reached.items }
+    {
+        self.left = self.left.take().or(one.left).or(other.left);
+        match (one_committed, other_committed) {
+            (true, true) => self.reached = union(one.reached, other.reached),
+            (true, false) => self.reached = one.reached,
+            (false, true) => self.reached = other.reached,
+            (false, false) => {}
+        }
+    }
+
     /// Takes over the guardians that were reached.
     pub(crate) fn reach(&mut self, reached: Vec<u32>)
         ensures reached { self.new.reached ≡ reached }
@@ -53,6 +82,35 @@ pub(crate) fn with_number(numbers: &Vec<u32>, number: u32) -> Result<Vec<u32>, A
             Ok(more)
         }
     }
+}
+
+/// The numbers of both lists. Each has room for as many again.
+fn union(one: Vec<u32>, other: Vec<u32>) -> Vec<u32>
+    requires one_room { HasRoomAgain one }
+    requires other_room { HasRoomAgain other }
+    ensures one { Includes one.items result.items }
+    ensures other { Includes other.items result.items }
+{
+    if one.len() < other.len() {
+        with_all(other, one)
+    } else {
+        with_all(one, other)
+    }
+}
+
+/// The numbers of both lists, of which the first has room for those of the second.
+fn with_all(numbers: Vec<u32>, more: Vec<u32>) -> Vec<u32>
+    requires room { vec_len numbers + vec_len more ≤ vec_capacity numbers }
+    ensures numbers { Includes numbers.items result.items }
+    ensures more { Includes more.items result.items }
+{
+    let (mut all, mut more) = (numbers, more);
+    if all.append(&mut more).is_err() {
+        unreachable!();
+    }
+    all.sort_unstable();
+    all.dedup();
+    all
 }
 
 /// One number.

@@ -146,7 +146,7 @@ fn abort_sub<W: MakesOwnSteps + Drop>(
 
 /// Commits the action and tells the guardian. If it cannot be committed, it is aborted. What came to nothing stands
 /// beside whether it committed.
-fn commit_and_tell<W: MakesOwnSteps + Drop>(
+pub(crate) fn commit_and_tell<W: MakesOwnSteps + Drop>(
     service: &mut Service<W>,
     guardian: u32,
     action: &Name,
@@ -172,7 +172,7 @@ fn commit_and_tell<W: MakesOwnSteps + Drop>(
 }
 
 /// Aborts the action and tells the guardian. Gives what came to nothing.
-fn abort_and_tell<W: MakesOwnSteps + Drop>(
+pub(crate) fn abort_and_tell<W: MakesOwnSteps + Drop>(
     service: &mut Service<W>,
     guardian: u32,
     action: &Name,

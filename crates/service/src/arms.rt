@@ -1,0 +1,46 @@
+//! Arms of an action that run at once, each in a thread of its own.
+ghost use Rattle.service.specs.Arms.{any_step};
+ghost use Rattle.service.specs.Transacting.{Goes};
+
+use crate::service::Service;
+use layer_contracts::Fault;
+use stepping::MakesOwnSteps;
+
+/// What runs in a thread of its own, and makes its steps by a maker of its own.
+pub trait Arm<W: MakesOwnSteps + Drop> {
+    ghost use Rattle.run_model.specs.Runs.{World};
+    ghost use Rattle.service.specs.Arms.{ArmDoes};
+
+    /// That it may run from this run on.
+    ghost may_run: { Self → World → Type 0 };
+
+    /// That it ran from a run on, and how it and its run are then.
+    ghost does: { ArmDoes Self };
+
+    /// Runs from what has happened so far.
+    fn run(&mut self, service: &mut Service<W>)
+        requires { may_run self.old (W.run service.old.world) }
+        ensures goes { ∥ Goes W.sees any_step (W.run service.old.world) (W.run service.new.world) ∥₁ }
+        ensures does { does self.old (W.run service.old.world) self.new (W.run service.new.world) };
+}
+
+/// Makes the steps of one caller, and runs arms beside one another.
+pub trait RunsArms: MakesOwnSteps + Drop + Sized {
+    ghost use Rattle.std.specs.Prelude.{◌≡◌, OnErr, OnOk};
+    ghost use Rattle.service.specs.Arms.{HaveRun};
+
+    /// Runs both arms at once. For each there is a maker of its own, which has the caller's events so far. The caller
+    /// has the events of both afterwards. After an error neither has run.
+    fn run_arms<A: Arm<Self> + Send, B: Arm<Self> + Send>(
+        &mut self,
+        one: &mut A,
+        other: &mut B,
+    ) -> Result<(), Fault>
+        requires one { A.may_run one.old (Self.run self.old) }
+        requires other { B.may_run other.old (Self.run self.old) }
+        ensures run { OnOk result (∥ HaveRun Self.sees A.does B.does (Self.run self.old)
+            (Self.run self.new) one.old one.new other.old other.new ∥₁) }
+        ensures err { OnErr result (Self.run self.new ≡ Self.run self.old) }
+        ensures one { OnErr result (one.new ≡ one.old) }
+        ensures other { OnErr result (other.new ≡ other.old) };
+}

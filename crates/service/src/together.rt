@@ -1,0 +1,248 @@
+//! Arms of a transaction: they begin by one step, run at once, and each ends by itself.
+ghost use Rattle.std.specs.Prelude.{◌≡◌, ◌∷◌, [], true, IfErr, IfOk, None, OnErr, OnOk};
+ghost use Rattle.action_names.specs.Names.{Name as ActionName};
+ghost use Rattle.run_model.specs.Actions.{is_committed};
+ghost use Rattle.run_model.specs.declared.step.ArmKind.TheVariants as arm_kinds;
+ghost use Rattle.run_model.specs.declared.step.Step.TheVariants as steps;
+ghost use Rattle.service.specs.Calling.{ComesToNothing, IsCall};
+ghost use Rattle.service.specs.Opening.{BeganBoth};
+ghost use Rattle.service.specs.Together.{HasRoomAgain, IsEndOf, RanNot, RanTogether, arms_of, settles_both};
+ghost use Rattle.service.specs.Transacting.{CommitsNoChild, EndedAndTold, Goes, Includes, Settles, Works, began_at, finishes, settles};
+
+use crate::arms::{Arm, RunsArms};
+use crate::fault::CallFault;
+use crate::place::Place;
+use crate::service::Service;
+use crate::subactions::{abort_and_tell, commit_and_tell};
+use crate::transaction::{Work, work_in};
+use action_names::{Name, Names};
+use run_model::{ArmKind, ArmKinds};
+use std::alloc::{AllocError, Global};
+use std::marker::{Brand, PhantomData};
+use stepping::MakesOwnSteps;
+
+/// Work that is to run in an arm, or has run there.
+struct InArm<'j, W: MakesOwnSteps + Drop, J: Work<W>> {
+    at: Place,
+    work: &'j mut J,
+    /// What came of the work, once it has run.
+    done: Option<Result<J::Value, J::Error>>,
+    of: PhantomData<W>,
+}
+
+impl<'j, W: MakesOwnSteps + Drop, J: Work<W>> Arm<W> for InArm<'j, W, J> {
+    ghost use Rattle.std.specs.Prelude.{◌≡◌, true};
+    ghost use Rattle.service.specs.Together.{EndsArm};
+    ghost use Rattle.service.specs.Transacting.{began_at};
+
+    ghost may_run = { λ arm begun. began_at arm.at.home arm.at.action begun.past ≡ true };
+
+    ghost does = { λ old begun new run. (new.work.ghost_name ≡ old.work.ghost_name)
+        × EndsArm W.sees J.does J.Error.from_gives old.at new.at begun run
+        old.work.now new.work.now new.done };
+
+    fn run(&mut self, service: &mut Service<W>) {
+        let done = work_in::<Brand, W, J>(service, &mut self.at, self.work);
+        self.done = Some(end_arm(service, &mut self.at, done));
+    }
+}
+
+/// Commits the arm if its work succeeded, and else aborts it. Gives what came of the work.
+fn end_arm<W: MakesOwnSteps + Drop, T: Drop, E: Drop + From<CallFault>>(
+    service: &mut Service<W>,
+    at: &mut Place,
+    done: Result<T, E>,
+) -> Result<T, E>
+    ensures { IsEndOf W.sees E.from_gives at.old at.new (W.run service.old.world)
+        (W.run service.new.world) done result }
+{
+    match done {
+        Ok(value) => {
+            commit_arm(service, at)?;
+            Ok(value)
+        }
+        Err(error) => {
+            let left = at.left.take();
+            at.keep(abort_and_tell(service, at.home, &at.action, left));
+            Err(error)
+        }
+    }
+}
+
+/// Commits the arm and tells its guardian. If it cannot be committed, it is aborted.
+///
+/// It commits only if its list of guardians has room for as many again: then the longer of two lists has room for the
+/// shorter.
+fn commit_arm<W: MakesOwnSteps + Drop>(
+    service: &mut Service<W>,
+    at: &mut Place,
+) -> Result<(), CallFault>
+    ensures ends { Settles W.sees (finishes at.old.action) (W.run service.old.world)
+        (W.run service.new.world) at.old.left at.new.left
+        (EndedAndTold at.old.action at.old.home (W.run service.new.world)) }
+    ensures committed { OnOk result
+        (is_committed at.old.action (W.run service.new.world).past ≡ true) }
+    ensures undone { OnErr result (Goes W.sees (settles at.old.action)
+        (W.run service.old.world) (W.run service.new.world)) }
+    ensures stopped { IfErr result (ComesToNothing W.sees (W.run service.old.world)
+        (steps.Commit at.old.action)) }
+    ensures action { at.new.action ≡ at.old.action }
+    ensures reached { at.new.reached.items ≡ at.old.reached.items }
+    ensures room { OnOk result (HasRoomAgain at.new.reached) }
+{
+    let room = at.reached.reserve(at.reached.len());
+    let left = at.left.take();
+    let (committed, left) = match room {
+        Ok(()) => commit_and_tell(service, at.home, &at.action, left),
+        Err(refused) => (
+            Err(CallFault::from(refused)),
+            abort_and_tell(service, at.home, &at.action, left),
+        ),
+    };
+    at.keep(left);
+    committed
+}
+
+/// Runs two works at once, each in an arm of the action. An arm is committed if its work succeeds, and else aborted.
+pub(crate) fn together_in<W: RunsArms, A: Work<W> + Send, B: Work<W> + Send>(
+    service: &mut Service<W>,
+    at: &mut Place,
+    alloc: Global,
+    one: &mut A,
+    other: &mut B,
+) -> Result<(Result<A::Value, A::Error>, Result<B::Value, B::Error>), CallFault>
+where
+    A::Value: Send,
+    A::Error: Send,
+    B::Value: Send,
+    B::Error: Send,
+    requires there { began_at at.old.home at.old.action (W.run service.old.world).past ≡ true }
+    ensures action { at.new.action ≡ at.old.action }
+    ensures home { at.new.home ≡ at.old.home }
+    ensures reached { Includes at.old.reached.items at.new.reached.items }
+    ensures works { ∥ Works W.sees at.old.action (W.run service.old.world) (W.run service.new.world)
+        at.old.left at.new.left ∥₁ }
+    ensures ran { IfOk result (λ gave. ∥ RanTogether W.sees A.does B.does A.Error.from_gives
+        B.Error.from_gives at.old.action (W.run service.old.world) (W.run service.new.world)
+        one.old one.new other.old other.new gave.0 gave.1 ∥₁) }
+    ensures not { IfErr result (λ fault. RanNot W.sees at.old.action (W.run service.old.world)
+        (W.run service.new.world) fault) }
+    ensures undone { OnErr result (CommitsNoChild at.old.action (W.run service.old.world)
+        (W.run service.new.world)) }
+    ensures same { OnErr result ((one.new ≡ one.old) × (other.new ≡ other.old)) }
+{
+    let (first, second) = begin_arms(service, at, alloc)?;
+    let mut first = in_arm(first, one);
+    let mut second = in_arm(second, other);
+    let ran = service.world.run_arms(&mut first, &mut second);
+    let InArm {
+        at: first,
+        done: gave,
+        ..
+    } = first;
+    let InArm {
+        at: second,
+        done: also_gave,
+        ..
+    } = second;
+    if let Err(fault) = ran {
+        call_off(service, at, &first.action, &second.action);
+        return Err(CallFault::Failed(fault));
+    }
+    let (gave, also_gave) = (gave.unwrap(), also_gave.unwrap());
+    at.join(first, gave.is_ok(), second, also_gave.is_ok());
+    Ok((gave, also_gave))
+}
+
+/// The work, before it runs in the arm.
+fn in_arm<'j, W: MakesOwnSteps + Drop, J: Work<W>>(at: Place, work: &'j mut J) -> InArm<'j, W, J>
+    ensures at { result.at ≡ at }
+    ensures same_work { result.work.ghost_name ≡ work.entry.ghost_name }
+    ensures before { result.work.now ≡ work.old }
+    ensures not_yet { result.done ≡ None }
+{
+    InArm {
+        at,
+        work,
+        done: None,
+        of: PhantomData,
+    }
+}
+
+/// Begins two arms of the action at its home, once there is room for what each reaches.
+fn begin_arms<W: MakesOwnSteps + Drop>(
+    service: &mut Service<W>,
+    at: &Place,
+    alloc: Global,
+) -> Result<(Place, Place), CallFault>
+    ensures call { IsCall W.run W.sees W.leaves (arms_of at.now.action) BeganBoth
+        service.old.world service.new.world result }
+    ensures homes { IfOk result
+        (λ arms. (arms.0.home ≡ at.now.home) × (arms.1.home ≡ at.now.home)) }
+    ensures reached { IfOk result (λ arms. (arms.0.reached.items ≡ at.now.reached.items)
+        × (arms.1.reached.items ≡ at.now.reached.items)) }
+    ensures left { IfOk result (λ arms. (arms.0.left ≡ None) × (arms.1.left ≡ None)) }
+{
+    let kinds = two_subs(alloc)?;
+    let first = at.reached.clone()?;
+    let second = at.reached.clone()?;
+    let (one, other) = both(service.begin_arms(&at.action, kinds)?);
+    Ok((arm_at(at.home, one, first), arm_at(at.home, other, second)))
+}
+
+/// The kinds of two arms that are subactions.
+fn two_subs(alloc: Global) -> Result<ArmKinds, AllocError>
+    ensures { IfOk result (λ kinds. kinds ≡ arm_kinds.Sub ∷ arm_kinds.Sub ∷ []) }
+{
+    let mut kinds = ArmKinds::new(alloc);
+    kinds.push(ArmKind::Sub)?;
+    kinds.push(ArmKind::Sub)?;
+    Ok(kinds)
+}
+
+/// The two names of the list.
+fn both(names: Names) -> (Name, Name)
+    requires { (one other : ActionName) × (names ≡ one ∷ other ∷ []) }
+    ensures { names ≡ result.0 ∷ result.1 ∷ [] }
+{
+    let mut names = names.into_vec();
+    match (names.pop(), names.pop()) {
+        (Some(other), Some(one)) => (one, other),
+        _ => unreachable!(),
+    }
+}
+
+/// An arm that has just begun.
+fn arm_at(home: u32, action: Name, reached: Vec<u32>) -> Place
+    ensures home { result.home ≡ home }
+    ensures action { result.action ≡ action }
+    ensures reached { result.reached ≡ reached }
+    ensures left { result.left ≡ None }
+{
+    Place {
+        action,
+        home,
+        reached,
+        left: None,
+    }
+}
+
+/// Aborts both arms and tells their guardian.
+fn call_off<W: MakesOwnSteps + Drop>(
+    service: &mut Service<W>,
+    at: &mut Place,
+    one: &Name,
+    other: &Name,
+)
+    ensures ends { Settles W.sees (settles_both one.now other.now) (W.run service.old.world)
+        (W.run service.new.world) at.old.left at.new.left
+        (EndedAndTold one.now at.old.home (W.run service.new.world)
+        × EndedAndTold other.now at.old.home (W.run service.new.world)) }
+    ensures action { at.new.action ≡ at.old.action }
+    ensures home { at.new.home ≡ at.old.home }
+    ensures reached { at.new.reached ≡ at.old.reached }
+{
+    let left = at.left.take();
+    let left = abort_and_tell(service, at.home, one, left);
+    at.keep(abort_and_tell(service, at.home, other, left));
+}
