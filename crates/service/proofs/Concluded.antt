@@ -23,7 +23,7 @@ use Rattle.stepping.specs.Stepping.{Leaves}
 use Rattle.service.specs.Calling.{IsCall, IsDone, IsReply, IsVote, Told}
 use Rattle.service.specs.Ending.{AreCutShort, ArePolled, HasHappened, HaveHappened, prepares}
 use Rattle.service.specs.Outcomes.{is_decided}
-use Rattle.service.specs.Transacting.{AllTold, AllVoted, CameToNothing, Concludes, EndedAndTold, EndsTop, FallsShort, Goes, Includes, NoneBegan, Settles, Works, ends_top, finishes, has_number, is_concluding, is_settling, is_voted_down, settles, votes_no, works_in}
+use Rattle.service.specs.Transacting.{AllTold, AllVoted, CameToNothing, Concludes, EndedAndTold, EndsTop, FallsShort, Goes, Includes, NoneBegan, Settles, Works, by_itself, ends_top, finishes, has_number, is_concluding, is_settling, is_voted_down, settles, votes_no, works_in}
 use Rattle.service.specs.declared.fault.CallFault.{CallFault}
 use Rattle.service.proofs.Shapes.{answer_fits}
 use Rattle.service.proofs.Going.{ended_stays, end_crashes_not, goes_grows, goes_none, goes_one, goes_same, goes_then, goes_told, goes_wider, kept, none_began, none_same, none_then, settles_after, settles_ends, settles_finishes, settles_then, settles_wider, short_in, short_more, short_then, step_kept, works_quiet}
@@ -166,15 +166,16 @@ module _ {M : Type 0} (run : M → World) (sees : Sees) (leaves : Leaves M) wher
   -- a call that came to nothing
   pub call_stopped : {T : Type 0} (p kind : Step → Bool) (step : Step) (Shows : T → Answer → Type 0) (old new : M) (fault : CallFault)
       → p step ≡ true → kind step ≡ true → IsCall run sees leaves step Shows old new (Err fault) → CameToNothing sees p kind (run old) (run new) fault
-  call_stopped p kind step Shows old new fault own is call = record {
-    before = run old;
-    first = goes_none p (run old);
-    step = step;
-    own = own;
-    of_kind = is;
-    why = call.why;
-    more = goes_same p (run old) (run new) call.same;
-  }
+  call_stopped p kind step Shows old new fault own is call =
+      by_itself (record {
+        before = run old;
+        first = goes_none p (run old);
+        step = step;
+        own = own;
+        of_kind = is;
+        why = call.why;
+        more = goes_same p (run old) (run new) call.same;
+      })
 
   -- a call that is to settle something, of which the first fault is kept
   pub call_settles : {T : Type 0} (p : Step → Bool) (step : Step) (Shows : T → Answer → Type 0) (old new : M) (r : Result T CallFault)
@@ -333,7 +334,7 @@ module _ {M : Type 0} (run : M → World) (sees : Sees) (leaves : Leaves M) wher
       → CameToNothing sees (ends_top t) is_concluding (run old) (run new) fault
   cut_stopped t gs old new fault cut =
       let (own, is) = next_votes t gs cut.done cut.rest cut.next cut.parts in
-      record {
+      by_itself (record {
         before = run cut.before;
         first = (some_votes t gs gs cut.done (cut.next ∷ cut.rest) old cut.before (λ n h. h) cut.parts cut.happened).goes;
         step = cut.next;
@@ -341,7 +342,7 @@ module _ {M : Type 0} (run : M → World) (sees : Sees) (leaves : Leaves M) wher
         of_kind = is;
         why = cut.why;
         more = goes_same (ends_top t) (run cut.before) (run new) cut.same;
-      }
+      })
 
   -- what has happened is the last event
   happened_past : (step : Step) (old new : M) (h : HasHappened run sees leaves step old new)

@@ -23,7 +23,7 @@ use Rattle.run_laws.proofs.Names.{clash, eqb_self, has_name_append, same_name_se
 use Rattle.run_laws.proofs.Begun.{begun_cases, begun_more}
 use Rattle.stepping.specs.Beside.{IsAnsweredTo, Sees}
 use Rattle.service.specs.declared.fault.CallFault.{CallFault}
-use Rattle.service.specs.Transacting.{AllBegan, AllSettled, AllVotersTold, AreOwn, Began, CameToNothing, EndedAndTold, FallsShort, Goes, IsSettled, NoneBegan, Settles, Works, began_at, begins_at, belongs, belongs_to, ends_top, finishes, is_below, settles, works_in, works_with}
+use Rattle.service.specs.Transacting.{AllBegan, AllSettled, AllVotersTold, AreOwn, Began, CameToNothing, EndedAndTold, FallsShort, Goes, IsSettled, NoneBegan, Settles, Works, by_itself, in_arm, began_at, begins_at, belongs, belongs_to, ends_top, finishes, is_below, settles, works_in, works_with}
 use Rattle.service.proofs.Parts.{begun_is_new}
 
 -- ---- names
@@ -65,6 +65,7 @@ below_lift a s b up h =
 pub lift : (a s : Name) → is_prefix a s ≡ true → (step : Step) → works_in s step ≡ true → works_in a step ≡ true
 lift a s up (steps.NestedTop b) h = prefix_then a s b up h
 lift a s up (steps.Call b g) h = prefix_then a s b up h
+lift a s up (steps.Arms b kinds) h = prefix_then a s b up h
 lift a s up (steps.Op b x wanted) h = prefix_then a s b up h
 lift a s up (steps.Commit b) h = below_lift a s b up h
 lift a s up (steps.Abort b) h = below_lift a s b up h
@@ -331,7 +332,7 @@ module _ (sees : Sees) where
     own_append p x first more a b.3,
   )
 
-  own_wider : (p q : Step → Bool) (x : World) → ((s : Step) → p s ≡ true → q s ≡ true) → (recent : List Event) → AreOwn sees p x recent
+  pub own_wider : (p q : Step → Bool) (x : World) → ((s : Step) → p s ≡ true → q s ≡ true) → (recent : List Event) → AreOwn sees p x recent
       → AreOwn sees q x recent
   own_wider p q x f [] own = tt
   own_wider p q x f (e ∷ recent) own = (f e.step own.0, own.1, own.2, own_wider p q x f recent own.3)
@@ -426,39 +427,50 @@ module _ {sees : Sees} where
 
   -- ---- what falls short
 
+  -- so is what came to nothing of steps behind others, before others and among others
   pub short_more : {kind : Step → Bool} (p : Step → Bool) (x y z : World) (f : CallFault) → CameToNothing sees p kind x y f → Goes sees p y z → CameToNothing sees p kind x z f
-  short_more p x y z f s a = record {
-    before = s.before;
-    first = s.first;
-    step = s.step;
-    own = s.own;
-    of_kind = s.of_kind;
-    why = s.why;
-    more = goes_then p s.before y z s.more a;
-  }
+  short_more p x y z f (by_itself s) a =
+      by_itself (record {
+        before = s.before;
+        first = s.first;
+        step = s.step;
+        own = s.own;
+        of_kind = s.of_kind;
+        why = s.why;
+        more = goes_then p s.before y z s.more a;
+      })
+  short_more p x y z f (in_arm begun arm joined first arms inside s both part more) a =
+      in_arm begun arm joined first arms inside s both part (goes_then p joined y z more a)
 
   pub short_after : {kind : Step → Bool} (p : Step → Bool) (x y z : World) (f : CallFault) → Goes sees p x y → CameToNothing sees p kind y z f → CameToNothing sees p kind x z f
-  short_after p x y z f a s = record {
-    before = s.before;
-    first = goes_then p x y s.before a s.first;
-    step = s.step;
-    own = s.own;
-    of_kind = s.of_kind;
-    why = s.why;
-    more = s.more;
-  }
+  short_after p x y z f a (by_itself s) =
+      by_itself (record {
+        before = s.before;
+        first = goes_then p x y s.before a s.first;
+        step = s.step;
+        own = s.own;
+        of_kind = s.of_kind;
+        why = s.why;
+        more = s.more;
+      })
+  short_after p x y z f a (in_arm begun arm joined first arms inside s both part more) =
+      in_arm begun arm joined (goes_then p x y begun a first) arms inside s both part more
 
   pub short_wider : {kind : Step → Bool} (p q : Step → Bool) (x y : World) (f : CallFault) → ((s : Step) → p s ≡ true → q s ≡ true) → CameToNothing sees p kind x y f
       → CameToNothing sees q kind x y f
-  short_wider p q x y f w s = record {
-    before = s.before;
-    first = goes_wider p q x s.before w s.first;
-    step = s.step;
-    own = w s.step s.own;
-    of_kind = s.of_kind;
-    why = s.why;
-    more = goes_wider p q s.before y w s.more;
-  }
+  short_wider p q x y f w (by_itself s) =
+      by_itself (record {
+        before = s.before;
+        first = goes_wider p q x s.before w s.first;
+        step = s.step;
+        own = w s.step s.own;
+        of_kind = s.of_kind;
+        why = s.why;
+        more = goes_wider p q s.before y w s.more;
+      })
+  short_wider p q x y f w (in_arm begun arm joined first arms inside s both part more) =
+      in_arm begun arm joined (goes_wider p q x begun w first) arms (goes_wider p q begun arm w inside)
+      (short_wider p q begun arm f w s) (goes_wider p q begun joined w both) part (goes_wider p q joined y w more)
 
   -- the first fault is kept through two parts
   pub short_then : (p : Step → Bool) (x y z : World) (was mid is : Option CallFault) → Goes sees p x y → Goes sees p y z
@@ -585,25 +597,11 @@ module _ {sees : Sees} where
       let e = called_child (opening_in x.lists) a g given.seen s (sym given.answered) in
       subst (λ c. is_below a c ≡ true) (sym e) (child_below a (next_number (opening_in x.lists) a given.seen))
 
-  -- a subaction was called, worked and ended
-  module _ (a s : Name) (g : ℕ) (x y z w : World) (was mid is : Option CallFault)
-      (answer : IsAnsweredTo sees x (steps.Call a g) (answers.Began (s ∷ [])))
-      (after : y ≡ world_after x (steps.Call a g) (answers.Began (s ∷ [])))
+  -- work in an action below, and its end, are work in this one
+  module _ (a s : Name) (g : ℕ) (y z w : World) (was mid is : Option CallFault) (below : is_below a s ≡ true)
       (inside : Works sees s y z was mid) (ends : Settles sees (finishes s) z w mid is (EndedAndTold s g w)) where
-    below : is_below a s ≡ true
-    below = called_below x a g s answer
-
     abbrev mine : Step → Bool
     mine = works_with inside.tops a
-
-    there : y ≡ record { lists = x.lists; past = record { step = steps.Call a g; answer = answers.Began (s ∷ []) } ∷ x.past }
-    there = after
-
-    call_works : Goes sees (works_in a) x y
-    call_works = goes_one (works_in a) (steps.Call a g) (answers.Began (s ∷ [])) x y (prefix_self a) answer after
-
-    call_goes : Goes sees mine x y
-    call_goes = goes_wider (works_in a) mine x y (with_work inside.tops a) call_works
 
     inner_lift : (step : Step) → works_with inside.tops s step ≡ true → mine step ≡ true
     inner_lift = with_lift inside.tops a s (and_parts _ _ below).0
@@ -611,49 +609,94 @@ module _ {sees : Sees} where
     inner_goes : Goes sees mine y z
     inner_goes = goes_wider (works_with inside.tops s) mine y z inner_lift inside.goes
 
-    inner_short : (fault : CallFault) → mid ≡ Some fault → (was ≡ Some fault) ⊎ FallsShort sees mine y z fault
-    inner_short fault h = short_in (works_with inside.tops s) mine y z was fault inner_lift (inside.short fault h)
-
     lifted : Settles sees mine z w mid is (EndedAndTold s g w)
     lifted =
         settles_wider (finishes s) mine z w mid is (EndedAndTold s g w)
         (λ step h. with_work inside.tops a step (finishes_below a s below step h)) ends
 
-    own_settled : EndedAndTold s g w → IsSettled s w
-    own_settled h = record {
-      ended = h.0;
-      home = g;
-      there =
-          began_stays g s (goes_grows mine y w (goes_then mine y z w inner_goes lifted.goes))
-          (begun_at (steps.Call a g) s x y there g (eqb_self g));
-      told = h.1;
-    }
-
-    pub works_called : Works sees a x w was is
-    works_called = record {
+    pub works_ended : Works sees a y w was is
+    works_ended = record {
       tops = inside.tops;
-      began = all_within inside.tops x y z w (goes_grows mine x y call_goes) inside.began (goes_grows mine z w lifted.goes);
-      goes = goes_then mine x y w call_goes (goes_then mine y z w inner_goes lifted.goes);
+      began = all_within inside.tops y y z w here inside.began (goes_grows mine z w lifted.goes);
+      goes = goes_then mine y z w inner_goes lifted.goes;
       settled = λ h.
-          let (k, done) = ends.settled h in
-          let (j, all, heard) = inside.settled k in (
+          let (j, all, heard) = inside.settled (ends.settled h).0 in (
             j,
-            λ b new old. of b done all new old (is_begun b y.past) refl,
-            voters_then mine x z w crashes_not
-                (voters_then mine x y z crashes_not (voters_same (works_in a) x y (work_votes_not a) call_works) heard inner_goes)
-                (voters_same (finishes s) z w (finishes_votes_not s) ends.goes) lifted.goes,
+            λ b new old. settled_stays mine z w b crashes_not lifted.goes (all b (sym (ends.none b) ∙ new) old),
+            voters_then mine y z w crashes_not heard (voters_same (finishes s) z w (finishes_votes_not s) ends.goes) lifted.goes,
           );
       short =
-          short_then mine x y w was was is call_goes (goes_then mine y z w inner_goes lifted.goes) (λ fault e. inl e)
-          (short_then mine y z w was mid is inner_goes lifted.goes inner_short lifted.short);
+          short_then mine y z w was mid is inner_goes lifted.goes
+          (λ fault h. short_in (works_with inside.tops s) mine y z was fault inner_lift (inside.short fault h)) lifted.short;
     }
       where
         crashes_not : (h : ℕ) (step : Step) → works_with inside.tops a step ≡ true → step_crashes step h ≡ false
         crashes_not = with_crashes_not inside.tops a
 
-        of : (b : Name) → EndedAndTold s g w → AllSettled y z → is_begun b w.past ≡ true → is_begun b x.past ≡ false → (t : Bool)
-            → is_begun b y.past ≡ t → IsSettled b w
-        of b done all new old true e =
-            subst (λ c. IsSettled c w) (begun_only (steps.Call a g) s x y there b e old) (own_settled done)
-        of b done all new old false e =
-            settled_stays mine z w b crashes_not lifted.goes (all b (sym (ends.none b) ∙ new) e)
+  -- work behind a step that began actions, if these are settled too
+  module _ (a : Name) (step : Step) (names : List Name) (x y w : World) (was is : Option CallFault) (own : works_in a step ≡ true)
+      (answer : IsAnsweredTo sees x step (answers.Began names)) (after : y ≡ world_after x step (answers.Began names))
+      (work : Works sees a y w was is) (done : is ≡ None → (b : Name) → has_name names b ≡ true → IsSettled b w) where
+    abbrev working : Step → Bool
+    working = works_with work.tops a
+
+    first_goes : Goes sees (works_in a) x y
+    first_goes = goes_one (works_in a) step (answers.Began names) x y own answer after
+
+    first_wider : Goes sees working x y
+    first_wider = goes_wider (works_in a) working x y (with_work work.tops a) first_goes
+
+    begun_settled : (b : Name) → is ≡ None → AllSettled y w → is_begun b w.past ≡ true → is_begun b x.past ≡ false → (t : Bool) → is_begun b y.past ≡ t
+        → IsSettled b w
+    begun_settled b h all new old true e =
+        elim
+        (begun_cases (record { step = step; answer = answers.Began names }) x.past b (sym (ap (λ (v : World). is_begun b v.past) after) ∙ e)) [
+          | inl k ↦ done h b k
+          | inr k ↦ absurd (clash k old)
+        ]
+    begun_settled b h all new old false e = all b new e
+
+    pub works_begun : Works sees a x w was is
+    works_begun = record {
+      tops = work.tops;
+      began = all_within work.tops x y w w (goes_grows working x y first_wider) work.began here;
+      goes = goes_then working x y w first_wider work.goes;
+      settled = λ h.
+          let (j, all, heard) = work.settled h in (
+            j,
+            λ b new old. begun_settled b h all new old (is_begun b y.past) refl,
+            voters_then working x y w (with_crashes_not work.tops a) (voters_same (works_in a) x y (work_votes_not a) first_goes) heard work.goes,
+          );
+      short = short_then working x y w was was is first_wider work.goes (λ fault e. inl e) work.short;
+    }
+
+  -- what ended, and whose guardian was told, is settled where it began
+  pub settled_where : (s : Name) (g : ℕ) (y w : World) → began_at g s y.past ≡ true → Follows y.past w.past → EndedAndTold s g w → IsSettled s w
+  settled_where s g y w there grows h = record {
+    ended = h.0;
+    home = g;
+    there = began_stays g s grows there;
+    told = h.1;
+  }
+
+  -- a subaction was called, worked and ended
+  module _ (a s : Name) (g : ℕ) (x y z w : World) (was mid is : Option CallFault)
+      (answer : IsAnsweredTo sees x (steps.Call a g) (answers.Began (s ∷ [])))
+      (after : y ≡ world_after x (steps.Call a g) (answers.Began (s ∷ [])))
+      (inside : Works sees s y z was mid) (ends : Settles sees (finishes s) z w mid is (EndedAndTold s g w)) where
+    ended : Works sees a y w was is
+    ended = works_ended a s g y z w was mid is (called_below x a g s answer) inside ends
+
+    called_settled : is ≡ None → (b : Name) → has_name (s ∷ []) b ≡ true → IsSettled b w
+    called_settled h b i =
+        elim (or_cases (same_name s b) false i) [
+          | inl k ↦
+              subst (λ c. IsSettled c w) (same_name_true s b k)
+              (settled_where s g y w (begun_at (steps.Call a g) s x y after g (eqb_self g)) (goes_grows (works_with ended.tops a) y w ended.goes)
+              (ends.settled h).1)
+          | inr k ↦ absurd (false≢true k)
+        ]
+
+    pub works_called : Works sees a x w was is
+    works_called =
+        works_begun a (steps.Call a g) (s ∷ []) x y w was is (prefix_self a) answer after ended called_settled

@@ -1,9 +1,11 @@
 pub mod Again
 pub mod Alone
+pub mod BothArms
 pub mod Calls
 pub mod Concluded
 pub mod Ended
 pub mod Going
+pub mod Joined
 pub mod Numbers
 pub mod Others
 pub mod Parts

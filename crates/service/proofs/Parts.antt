@@ -18,7 +18,7 @@ use Rattle.run_laws.proofs.Names.{clash, has_name_append}
 use Rattle.stepping.specs.Beside.{IsAnsweredTo, IsPartOf, Sees, beside, both, none}
 
 -- what an event of a part did was done
-any_in_part : (p : Event → Bool) {own seen : List Event} → IsPartOf own seen → list_any p own ≡ true → list_any p seen ≡ true
+pub any_in_part : (p : Event → Bool) {own seen : List Event} → IsPartOf own seen → list_any p own ≡ true → list_any p seen ≡ true
 any_in_part p none h = h
 any_in_part p (both e {own = own} {seen = seen} part) h = elim (or_cases (p e) (list_any p own) h) [
   | inl k ↦ or_left (p e) (list_any p seen) k
@@ -27,7 +27,7 @@ any_in_part p (both e {own = own} {seen = seen} part) h = elim (or_cases (p e) (
 any_in_part p (beside e {seen = seen} part) h = or_right (p e) (list_any p seen) (any_in_part p part h)
 
 -- what a part began was begun
-begun_in_part : (a : Name) {own seen : List Event} → IsPartOf own seen → is_begun a own ≡ true → is_begun a seen ≡ true
+pub begun_in_part : (a : Name) {own seen : List Event} → IsPartOf own seen → is_begun a own ≡ true → is_begun a seen ≡ true
 begun_in_part a none h = h
 begun_in_part a (both e {own = own} {seen = seen} part) h =
     has_name_append (names_begun e.answer) (begun seen) a
@@ -39,7 +39,7 @@ begun_in_part a (beside e {seen = seen} part) h =
     has_name_append (names_begun e.answer) (begun seen) a ∙ or_right (begins e a) (is_begun a seen) (begun_in_part a part h)
 
 module _ {own seen : List Event} (part : ∥ IsPartOf own seen ∥₁) where
-  begun_seen : (a : Name) → is_begun a own ≡ true → is_begun a seen ≡ true
+  pub begun_seen : (a : Name) → is_begun a own ≡ true → is_begun a seen ≡ true
   begun_seen a h = ∥∥₁_elim part (Bool-set (is_begun a seen) true) (λ p. begun_in_part a p h)
 
   committed_seen : (a : Name) → is_committed a own ≡ true → is_committed a seen ≡ true

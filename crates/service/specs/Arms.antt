@@ -15,7 +15,7 @@ any_step step = true
 
 -- the third list has the events of the first and of the second, those of each in their order, and no others
 pub data IsMerge : List Event → List Event → List Event → Type 0 where
-  none : IsMerge [] [] []
+  of_neither : IsMerge [] [] []
   of_one : (e : Event) {one other all : List Event} → IsMerge one other all
       → IsMerge (e ∷ one) other (e ∷ all)
   of_other : (e : Event) {one other all : List Event} → IsMerge one other all

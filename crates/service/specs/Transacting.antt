@@ -208,27 +208,28 @@ module _ (sees : Sees) where
     pub why : ComesToNothing sees before step fault
     pub more : Goes mine before new
 
-  -- Of these steps one of this kind came to nothing, for this reason: at the caller's own run, or in an arm. The arm's
-  -- run went on from that at which arms began, and what it did is a part of what the caller then went on by. Who runs
-  -- no arms has only the first.
-  pub data CameToNothing (mine kind : Step → Bool) : World → World → CallFault → Type 0 where
-    by_itself : {old new : World} {fault : CallFault} → StopsAt mine kind old new fault
-        → CameToNothing mine kind old new fault
-    in_arm : {old new : World} {fault : CallFault} (begun arm joined : World)
-        → Goes mine old begun → begins_arms begun.past ≡ true
-        → (inside : Goes mine begun arm) → CameToNothing mine kind begun arm fault
-        → (both : Goes mine begun joined) → IsPartOf inside.later both.later
-        → Goes mine joined new → CameToNothing mine kind old new fault
+-- Of these steps one of this kind came to nothing, for this reason: at the caller's own run, or in an arm. The arm's run
+-- went on from that at which arms began, and what it did is a part of what the caller then went on by. Who runs no arms
+-- has only the first.
+pub data CameToNothing (sees : Sees) (mine kind : Step → Bool) : World → World → CallFault → Type 0 where
+  by_itself : {old new : World} {fault : CallFault} → StopsAt sees mine kind old new fault
+      → CameToNothing sees mine kind old new fault
+  in_arm : {old new : World} {fault : CallFault} (begun arm joined : World)
+      → Goes sees mine old begun → begins_arms begun.past ≡ true
+      → (inside : Goes sees mine begun arm) → CameToNothing sees mine kind begun arm fault
+      → (both : Goes sees mine begun joined) → IsPartOf inside.later both.later
+      → Goes sees mine joined new → CameToNothing sees mine kind old new fault
 
+module _ (sees : Sees) where
   -- one that was to settle something did
   abbrev pub FallsShort : (Step → Bool) → World → World → CallFault → Type 0
-  FallsShort mine old new fault = CameToNothing mine is_settling old new fault
+  FallsShort mine old new fault = CameToNothing sees mine is_settling old new fault
 
   -- Steps of this kind that begin nothing. Unless one came to nothing, it is so afterwards. Else the reason is kept, of
   -- one of these steps or of one before.
   pub record Settles (mine : Step → Bool) (old new : World) (was is : Option CallFault)
       (So : Type 0) : Type 0 where
-    pub goes : Goes mine old new
+    pub goes : Goes sees mine old new
     pub none : NoneBegan old new
     pub settled : is ≡ None → (was ≡ None) × So
     pub short : (fault : CallFault) → is ≡ Some fault
@@ -241,7 +242,7 @@ module _ (sees : Sees) where
   pub record Works (a : Name) (old new : World) (was is : Option CallFault) : Type 0 where
     pub tops : List Name
     pub began : AllBegan tops old new
-    pub goes : Goes (works_with tops a) old new
+    pub goes : Goes sees (works_with tops a) old new
     pub settled : is ≡ None → (was ≡ None) × AllSettled old new × AllVotersTold old new
     pub short : (fault : CallFault) → is ≡ Some fault
         → (was ≡ Some fault) ⊎ FallsShort (works_with tops a) old new fault
@@ -251,7 +252,7 @@ module _ (sees : Sees) where
   -- Steps that end a top action, whether they commit it or not. Only these guardians vote.
   pub record Concludes (t : Name) (guardians : List ℕ) (old new : World)
       (committed : Bool) : Type 0 where
-    pub goes : Goes (ends_top t) old new
+    pub goes : Goes sees (ends_top t) old new
     pub none : NoneBegan old new
     pub says : is_committed t new.past ≡ committed || is_committed t old.past
     pub voted : (g : ℕ) → has_number guardians g ≡ false
@@ -291,14 +292,14 @@ module _ (sees : Sees) where
     -- the run goes on by steps of this transaction alone, and of top actions that began in it
     pub tops : List Name
     pub began : AllBegan tops begun new
-    pub goes : Goes (belongs_to (top ∷ tops)) begun new
+    pub goes : Goes sees (belongs_to (top ∷ tops)) begun new
     -- it says committed exactly if its top action has committed
     pub says : is_committed top new.past ≡ has_committed outcome
     -- it says that a vote is the cause only if a guardian voted no
     pub vote : outcome ≡ Aborted Vote → is_voted_down top new.past ≡ true
     -- and that a step is only if one that was to close, to vote or to decide came to nothing for this reason
     pub step : (fault : CallFault) → outcome ≡ Aborted (ByStep fault)
-        → CameToNothing (belongs_to (top ∷ tops)) is_concluding begun new fault
+        → CameToNothing sees (belongs_to (top ∷ tops)) is_concluding begun new fault
     -- each action that began has ended, and the guardian at which it began was told; so was each that voted
     pub settled : is ≡ None → (was ≡ None) × AllSettled old new × AllVotersTold old new
     -- else a step that was to end or tell something came to nothing, for this reason
@@ -338,7 +339,7 @@ module _ (sees : Sees) where
     pub ends : EndsTop at.action guardians worked new mid ended.left (has_committed ended.outcome)
     pub vote : ended.outcome ≡ Aborted Vote → is_voted_down at.action new.past ≡ true
     pub step : (fault : CallFault) → ended.outcome ≡ Aborted (ByStep fault)
-        → CameToNothing (ends_top at.action) is_concluding worked new fault
+        → CameToNothing sees (ends_top at.action) is_concluding worked new fault
 
 -- ---- a caller that is alone
 

@@ -18,16 +18,16 @@ use crate::transaction::{Work, work_in};
 use action_names::{Name, Names};
 use run_model::{ArmKind, ArmKinds};
 use std::alloc::{AllocError, Global};
-use std::marker::{Brand, PhantomData};
+use std::marker::Brand;
 use stepping::MakesOwnSteps;
 
 /// Work that is to run in an arm, or has run there.
+#[derive(Drop)]
 struct InArm<'j, W: MakesOwnSteps + Drop, J: Work<W>> {
     at: Place,
     work: &'j mut J,
     /// What came of the work, once it has run.
     done: Option<Result<J::Value, J::Error>>,
-    of: PhantomData<W>,
 }
 
 impl<'j, W: MakesOwnSteps + Drop, J: Work<W>> Arm<W> for InArm<'j, W, J> {
@@ -165,7 +165,6 @@ fn in_arm<'j, W: MakesOwnSteps + Drop, J: Work<W>>(at: Place, work: &'j mut J) -
         at,
         work,
         done: None,
-        of: PhantomData,
     }
 }
 
