@@ -82,6 +82,15 @@ module _ {sees : Sees} where
             (subst (λ c. is_prefix c (child_of a n) ≡ false) (sym q) (children_apart a (suc n) n (more_than_before n)));
       }
 
+  pub begun_arms : (a s t : Name) (x begun : World) → BeginArms sees a s t x begun → begins_arms begun.past ≡ true
+  begun_arms a s t x begun begins = ap (λ (w : World). begins_arms w.past) begins.after
+
+  -- an arm began at the action's home
+  pub arm_began : (a s t : Name) (x begun : World) → BeginArms sees a s t x begun → (home : ℕ) → began_at home a x.past ≡ true → (b : Name)
+      → has_name (s ∷ t ∷ []) b ≡ true → began_at home b begun.past ≡ true
+  arm_began a s t x begun begins home there b i =
+      ap (λ (w : World). began_at home b w.past) begins.after ∙ or_left _ _ (and_from _ _ i there)
+
   -- ---- top actions that begin later are above no action that began before
 
   own_apart : (mine : Step → Bool) (x : World) (recent : List Event) (n : ℕ) (s : Name) → AreOwn sees mine x recent
@@ -155,7 +164,7 @@ none_of_three None (Some f) other h = cc
 none_of_three (Some f) one other h = cc
 
 some_of_three : (was one other : Option CallFault) (fault : CallFault) → option_or (option_or was one) other ≡ Some fault
-    → (was ≡ Some fault) ⊎ (one ≡ Some fault) ⊎ (other ≡ Some fault)
+    → (was ≡ Some fault) ⊎ ((one ≡ Some fault) ⊎ (other ≡ Some fault))
 some_of_three (Some f) one other fault h = inl h
 some_of_three None (Some f) other fault h = inr (inl h)
 some_of_three None None other fault h = inr (inr h)
@@ -204,12 +213,14 @@ module _ {sees : Sees} (a : Name) (begun one other new : World) (j : AreJoined s
   }
 
   one_short : (fault : CallFault) → left ≡ Some fault → FallsShort sees mine begun new fault
+  unfolding arm_goes goes joined_goes
   one_short fault h =
       in_arm begun one new (goes_none mine begun) arms (arm_goes (works_with u.tops a) one j.of_one one_wider u.goes)
       (short_wider (works_with u.tops a) mine begun one fault one_wider (short_of_none fault (u.short fault h))) goes (one_part j.merge)
       (goes_none mine new)
 
   other_short : (fault : CallFault) → right ≡ Some fault → FallsShort sees mine begun new fault
+  unfolding arm_goes goes joined_goes
   other_short fault h =
       in_arm begun other new (goes_none mine begun) arms (arm_goes (works_with v.tops a) other j.of_other other_wider v.goes)
       (short_wider (works_with v.tops a) mine begun other fault other_wider (short_of_none fault (v.short fault h))) goes (other_part j.merge)
@@ -217,14 +228,14 @@ module _ {sees : Sees} (a : Name) (begun one other new : World) (j : AreJoined s
 
   all_settled : left ≡ None → right ≡ None → AllSettled begun new
   all_settled l r b fresh old = elim (begun_joined begun one other new j b fresh) [
-    | inl k ↦ one_settled b ((u.settled l).1.0 b k old)
-    | inr k ↦ other_settled b ((v.settled r).1.0 b k old)
+    | inl k ↦ one_settled b ((u.settled l).1 b k old)
+    | inr k ↦ other_settled b ((v.settled r).1 b k old)
   ]
 
   all_told : left ≡ None → right ≡ None → AllVotersTold begun new
   all_told l r t g fresh old = elim (any_joined begun one other new j (λ e. step_votes e.step g t) fresh) [
-    | inl k ↦ one_told g t ((u.settled l).1.1 t g k old)
-    | inr k ↦ other_told g t ((v.settled r).1.1 t g k old)
+    | inl k ↦ one_told g t ((u.settled l).2 t g k old)
+    | inr k ↦ other_told g t ((v.settled r).2 t g k old)
   ]
 
   pub works_joined : (was : Option CallFault) → Works sees a begun new was (option_or (option_or was left) right)
@@ -248,13 +259,12 @@ module _ {sees : Sees} (a : Name) (begun one other new : World) (j : AreJoined s
     abbrev is : Option CallFault
     is = option_or (option_or was left) right
 
-    -- an arm began at the action's home
     began_home : (b : Name) → has_name (s ∷ t ∷ []) b ≡ true → began_at home b begun.past ≡ true
-    began_home b i = ap (λ (w : World). began_at home b w.past) begins.after ∙ or_left _ _ (and_from _ _ i there)
+    began_home = arm_began a s t x begun begins home there
 
     arms_settled : is ≡ None → (b : Name) → has_name (s ∷ t ∷ []) b ≡ true → IsSettled b new
     arms_settled h b i =
-        let (_, l, r) = none_of_three was left right h in
+        let (w, l, r) = none_of_three was left right h in
         let grows = goes_grows mine begun new goes in
         elim (or_cases (same_name s b) (has_name (t ∷ []) b) i) [
           | inl k ↦

@@ -97,7 +97,7 @@ module _ {sees : Sees} where
   }
 
 -- what settles a top action neither commits it nor votes
-settles_commits_not : (t : Name) (step : Step) → settles t step ≡ true → step_commits step t ≡ false
+pub settles_commits_not : (t : Name) (step : Step) → settles t step ≡ true → step_commits step t ≡ false
 settles_commits_not t (steps.Commit b) h = absurd (false≢true h)
 settles_commits_not t (steps.Decide b) h = absurd (false≢true h)
 settles_commits_not t _ h = refl

@@ -247,6 +247,15 @@ pub began_stays : (g : ℕ) (b : Name) {past now : List Event} → Follows past 
 began_stays g b here h = h
 began_stays g b (later e f) h = or_right _ _ (began_stays g b f h)
 
+-- what ended, and whose guardian was told, is settled where it began
+pub settled_where : (s : Name) (g : ℕ) (y w : World) → began_at g s y.past ≡ true → Follows y.past w.past → EndedAndTold s g w → IsSettled s w
+settled_where s g y w there grows h = record {
+  ended = h.0;
+  home = g;
+  there = began_stays g s grows there;
+  told = h.1;
+}
+
 pub all_settled_if_none : (old new : World) → NoneBegan old new → AllSettled old new
 all_settled_if_none old new n b h k = absurd (clash (sym (n b) ∙ h) k)
 
@@ -439,8 +448,8 @@ module _ {sees : Sees} where
         why = s.why;
         more = goes_then p s.before y z s.more a;
       })
-  short_more p x y z f (in_arm begun arm joined first arms inside s both part more) a =
-      in_arm begun arm joined first arms inside s both part (goes_then p joined y z more a)
+  short_more p x y z f (in_arm start arm joined first arms inside s both part more) a =
+      in_arm start arm joined first arms inside s both part (goes_then p joined y z more a)
 
   pub short_after : {kind : Step → Bool} (p : Step → Bool) (x y z : World) (f : CallFault) → Goes sees p x y → CameToNothing sees p kind y z f → CameToNothing sees p kind x z f
   short_after p x y z f a (by_itself s) =
@@ -453,11 +462,12 @@ module _ {sees : Sees} where
         why = s.why;
         more = s.more;
       })
-  short_after p x y z f a (in_arm begun arm joined first arms inside s both part more) =
-      in_arm begun arm joined (goes_then p x y begun a first) arms inside s both part more
+  short_after p x y z f a (in_arm start arm joined first arms inside s both part more) =
+      in_arm start arm joined (goes_then p x y start a first) arms inside s both part more
 
   pub short_wider : {kind : Step → Bool} (p q : Step → Bool) (x y : World) (f : CallFault) → ((s : Step) → p s ≡ true → q s ≡ true) → CameToNothing sees p kind x y f
       → CameToNothing sees q kind x y f
+  unfolding goes_wider
   short_wider p q x y f w (by_itself s) =
       by_itself (record {
         before = s.before;
@@ -468,9 +478,9 @@ module _ {sees : Sees} where
         why = s.why;
         more = goes_wider p q s.before y w s.more;
       })
-  short_wider p q x y f w (in_arm begun arm joined first arms inside s both part more) =
-      in_arm begun arm joined (goes_wider p q x begun w first) arms (goes_wider p q begun arm w inside)
-      (short_wider p q begun arm f w s) (goes_wider p q begun joined w both) part (goes_wider p q joined y w more)
+  short_wider p q x y f w (in_arm start arm joined first arms inside s both part more) =
+      in_arm start arm joined (goes_wider p q x start w first) arms (goes_wider p q start arm w inside)
+      (short_wider p q start arm f w s) (goes_wider p q start joined w both) part (goes_wider p q joined y w more)
 
   -- the first fault is kept through two parts
   pub short_then : (p : Step → Bool) (x y z : World) (was mid is : Option CallFault) → Goes sees p x y → Goes sees p y z
@@ -670,15 +680,6 @@ module _ {sees : Sees} where
       short = short_then working x y w was was is first_wider work.goes (λ fault e. inl e) work.short;
     }
 
-  -- what ended, and whose guardian was told, is settled where it began
-  pub settled_where : (s : Name) (g : ℕ) (y w : World) → began_at g s y.past ≡ true → Follows y.past w.past → EndedAndTold s g w → IsSettled s w
-  settled_where s g y w there grows h = record {
-    ended = h.0;
-    home = g;
-    there = began_stays g s grows there;
-    told = h.1;
-  }
-
   -- a subaction was called, worked and ended
   module _ (a s : Name) (g : ℕ) (x y z w : World) (was mid is : Option CallFault)
       (answer : IsAnsweredTo sees x (steps.Call a g) (answers.Began (s ∷ [])))
@@ -689,12 +690,12 @@ module _ {sees : Sees} where
 
     called_settled : is ≡ None → (b : Name) → has_name (s ∷ []) b ≡ true → IsSettled b w
     called_settled h b i =
+        let (k, told) = ends.settled h in
         elim (or_cases (same_name s b) false i) [
-          | inl k ↦
-              subst (λ c. IsSettled c w) (same_name_true s b k)
-              (settled_where s g y w (begun_at (steps.Call a g) s x y after g (eqb_self g)) (goes_grows (works_with ended.tops a) y w ended.goes)
-              (ends.settled h).1)
-          | inr k ↦ absurd (false≢true k)
+          | inl e ↦
+              subst (λ c. IsSettled c w) (same_name_true s b e)
+              (settled_where s g y w (begun_at (steps.Call a g) s x y after g (eqb_self g)) (goes_grows (works_with ended.tops a) y w ended.goes) told)
+          | inr e ↦ absurd (false≢true e)
         ]
 
     pub works_called : Works sees a x w was is

@@ -7,7 +7,7 @@ use Rattle.action_names.specs.Names.{Name}
 use Rattle.run_model.specs.declared.history.Event.{Event}
 use Rattle.run_model.specs.declared.step.Step.{Step}
 use Rattle.run_model.specs.declared.step.Step.TheVariants as steps
-use Rattle.run_model.specs.Actions.{begins, begun, is_aborted, is_begun, is_committed, is_ended, names_begun, step_aborts, step_commits, step_crashes}
+use Rattle.run_model.specs.Actions.{begins, is_aborted, is_begun, is_committed, is_ended, names_begun, step_aborts, step_commits, step_crashes}
 use Rattle.run_model.specs.Runs.{World}
 use Rattle.run_model.specs.Telling.{step_tells, told_since_crash}
 use Rattle.run_laws.proofs.Begun.{begun_cases, begun_more}
@@ -19,8 +19,8 @@ use Rattle.service.specs.Transacting.{AreOwn, Began, Goes, IsSettled, began_at, 
 use Rattle.service.proofs.Parts.{any_in_part, begun_in_part}
 
 -- what an event began was begun
-begins_more : (e : Event) (past : List Event) (b : Name) → begins e b ≡ true → is_begun b (e ∷ past) ≡ true
-begins_more e past b h = has_name_append (names_begun e.answer) (begun past) b ∙ or_left _ _ h
+pub begins_more : (e : Event) (past : List Event) (b : Name) → begins e b ≡ true → is_begun b (e ∷ past) ≡ true
+begins_more e past b h = has_name_append (names_begun e.answer) _ b ∙ or_left _ _ h
 
 -- ---- merges
 
@@ -157,7 +157,7 @@ module _ {sees : Sees} where
     module _ (p q mine : Step → Bool) (f : (s : Step) → p s ≡ true → mine s ≡ true) (k : (s : Step) → q s ≡ true → mine s ≡ true)
         (a : Goes sees p begun one) (b : Goes sees q begun other) where
       -- both went on by steps of a kind, and so did the caller
-      pub joined_goes : Goes sees mine begun new
+      unfoldable pub joined_goes : Goes sees mine begun new
       joined_goes = record {
         lists = j.of_both.lists;
         later = j.of_both.later;

@@ -1,9 +1,13 @@
 pub mod Again
 pub mod Alone
+pub mod ArmEnds
 pub mod BothArms
+pub mod BothRan
+pub mod CalledOff
 pub mod Calls
 pub mod Concluded
 pub mod Ended
+pub mod EndedArms
 pub mod Going
 pub mod Joined
 pub mod Numbers

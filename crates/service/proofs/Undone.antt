@@ -57,7 +57,7 @@ work_commits_none a s x y was is out work b under apart =
     (λ t i k. commits_no_other t b (apart t (work.began t i)) step k) own)
     work.goes
 
-settles_commits_none : (s b : Name) (step : Step) → settles s step ≡ true → step_commits step b ≡ false
+pub settles_commits_none : (s b : Name) (step : Step) → settles s step ≡ true → step_commits step b ≡ false
 settles_commits_none s b (steps.Commit c) h = absurd (false≢true h)
 settles_commits_none s b (steps.Decide c) h = absurd (false≢true h)
 settles_commits_none s b _ h = refl

@@ -1,5 +1,5 @@
 //! Arms of a transaction: they begin by one step, run at once, and each ends by itself.
-ghost use Rattle.std.specs.Prelude.{◌≡◌, ◌∷◌, [], true, IfErr, IfOk, None, OnErr, OnOk};
+ghost use Rattle.std.specs.Prelude.{◌≡◌, ◌∷◌, [], true, IfErr, IfOk, IsOk, None, OnErr, OnOk};
 ghost use Rattle.action_names.specs.Names.{Name as ActionName};
 ghost use Rattle.run_model.specs.Actions.{is_committed};
 ghost use Rattle.run_model.specs.declared.step.ArmKind.TheVariants as arm_kinds;
@@ -63,7 +63,8 @@ fn end_arm<W: MakesOwnSteps + Drop, T: Drop, E: Drop + From<CallFault>>(
         }
         Err(error) => {
             let left = at.left.take();
-            at.keep(abort_and_tell(service, at.home, &at.action, left));
+            let left = abort_and_tell(service, at.home, &at.action, left);
+            at.keep(left);
             Err(error)
         }
     }
@@ -92,15 +93,37 @@ fn commit_arm<W: MakesOwnSteps + Drop>(
 {
     let room = at.reached.reserve(at.reached.len());
     let left = at.left.take();
-    let (committed, left) = match room {
-        Ok(()) => commit_and_tell(service, at.home, &at.action, left),
-        Err(refused) => (
-            Err(CallFault::from(refused)),
-            abort_and_tell(service, at.home, &at.action, left),
-        ),
-    };
+    let (committed, left) = commit_if(service, at.home, &at.action, left, room);
     at.keep(left);
     committed
+}
+
+/// Commits the action if there was room, and else aborts it. Tells the guardian.
+fn commit_if<W: MakesOwnSteps + Drop>(
+    service: &mut Service<W>,
+    guardian: u32,
+    action: &Name,
+    left: Option<CallFault>,
+    room: Result<(), AllocError>,
+) -> (Result<(), CallFault>, Option<CallFault>)
+    ensures ends { Settles W.sees (finishes action.now) (W.run service.old.world)
+        (W.run service.new.world) left result.1
+        (EndedAndTold action.now guardian (W.run service.new.world)) }
+    ensures committed { OnOk result.0
+        (is_committed action.now (W.run service.new.world).past ≡ true) }
+    ensures undone { OnErr result.0 (Goes W.sees (settles action.now) (W.run service.old.world)
+        (W.run service.new.world)) }
+    ensures stopped { IfErr result.0 (ComesToNothing W.sees (W.run service.old.world)
+        (steps.Commit action.now)) }
+    ensures room { OnOk result.0 (IsOk room) }
+{
+    match room {
+        Ok(()) => commit_and_tell(service, guardian, action, left),
+        Err(refused) => (
+            Err(CallFault::from(refused)),
+            abort_and_tell(service, guardian, action, left),
+        ),
+    }
 }
 
 /// Runs two works at once, each in an arm of the action. An arm is committed if its work succeeds, and else aborted.
@@ -243,5 +266,6 @@ fn call_off<W: MakesOwnSteps + Drop>(
 {
     let left = at.left.take();
     let left = abort_and_tell(service, at.home, one, left);
-    at.keep(abort_and_tell(service, at.home, other, left));
+    let left = abort_and_tell(service, at.home, other, left);
+    at.keep(left);
 }

@@ -1,0 +1,69 @@
+-- How an arm ends, by what came of its work.
+use Rattle.std.proofs.Common.{Err, List, Ok, Result, inl, refl, subst, sym, true, ℕ, ◌≡◌}
+use Rattle.std.specs.Prelude.{OnOk}
+use Rattle.std.specs.Result.{IsErrAnd}
+use Rattle.run_model.specs.declared.step.Step.TheVariants as steps
+use Rattle.run_model.specs.Actions.{is_committed}
+use Rattle.run_model.specs.Runs.{World}
+use Rattle.stepping.specs.Beside.{Sees}
+use Rattle.service.specs.Calling.{ComesToNothing}
+use Rattle.service.specs.Together.{HasRoomAgain, IsEndOf}
+use Rattle.service.specs.Transacting.{EndedAndTold, Goes, Includes, Settles, finishes, settles}
+use Rattle.service.specs.declared.fault.CallFault.{CallFault}
+use Rattle.service.specs.declared.place.Place.{Place}
+use Rattle.service.proofs.Going.{settles_finishes, settles_wider}
+use Rattle.service.proofs.Undone.{if_error}
+use Rattle.service.proofs.Working.{failed_of}
+
+-- an error gives no value
+not_ok : {T E : Type 0} (r : Result T E) {P : E → Type 0} (So : Type 0) → IsErrAnd r P → OnOk r So
+not_ok (Ok x) So h = absurd h
+not_ok (Err x) So h = tt
+
+includes_same : (xs ys : List ℕ) → ys ≡ xs → Includes xs ys
+includes_same xs ys e = subst (Includes xs) (sym e) (λ n h. h)
+
+module _ {T E : Type 0} {sees : Sees} {comes : CallFault → E → Type 0} (at now : Place) (worked run : World) (same : now.action ≡ at.action)
+    (reached : now.reached.items ≡ at.reached.items) where
+  -- the work gave a value, and the arm committed
+  pub ended_ok : (x : T) → Settles sees (finishes at.action) worked run at.left now.left (EndedAndTold at.action at.home run)
+      → is_committed at.action run.past ≡ true → HasRoomAgain now.reached → IsEndOf sees comes at now worked run (Ok x) (Ok x)
+  ended_ok x ends committed room = record {
+    action = same;
+    reached = includes_same at.reached.items now.reached.items reached;
+    ends = ends;
+    gives = refl;
+    committed = committed;
+    room = room;
+    undone = tt;
+  }
+
+  -- the work gave a value, and a fault kept the arm from its commit
+  pub ended_failed : (x : T) (result : Result T E) (fault : CallFault)
+      → Settles sees (finishes at.action) worked run at.left now.left (EndedAndTold at.action at.home run) → IsErrAnd result (comes fault)
+      → ComesToNothing sees worked (steps.Commit at.action) fault → Goes sees (settles at.action) worked run
+      → IsEndOf sees comes at now worked run (Ok x) result
+  ended_failed x result fault ends came why undone = record {
+    action = same;
+    reached = includes_same at.reached.items now.reached.items reached;
+    ends = ends;
+    gives = failed_of comes (ComesToNothing sees worked (steps.Commit at.action)) x result fault came why;
+    committed = not_ok result (is_committed at.action run.past ≡ true) came;
+    room = not_ok result (HasRoomAgain now.reached) came;
+    undone = if_error result (Goes sees (settles at.action) worked run) undone;
+  }
+
+  -- the work gave an error, and the arm was aborted
+  pub ended_err : (error : E) → Settles sees (settles at.action) worked run at.left now.left (EndedAndTold at.action at.home run)
+      → IsEndOf sees comes at now worked run (Err error) (Err error)
+  ended_err error ends = record {
+    action = same;
+    reached = includes_same at.reached.items now.reached.items reached;
+    ends =
+        settles_wider (settles at.action) (finishes at.action) worked run at.left now.left (EndedAndTold at.action at.home run)
+        (settles_finishes at.action) ends;
+    gives = inl refl;
+    committed = tt;
+    room = tt;
+    undone = ends.goes;
+  }

@@ -1,0 +1,210 @@
+-- Arms that ended, as work of their action, and which of its children have committed then.
+use Rattle.std.proofs.Common.{Bool, Err, None, Ok, OnErr, Option, Result, ap, false, inl, inr, refl, subst, sym, true, ℕ, ◌∙◌, ◌∷◌, [], ◌≡◌}
+use mathlib.Core.Bool.{Bool-set}
+use Rattle.std.proofs.Math.Logic.{∥∥₁_elim, ∥∥₁_map}
+use Rattle.std.proofs.lemmas.Bool.{and_parts, false_from_ne_true, not-true, or_left, or_right}
+use Rattle.std.specs.Prelude.{OnOk}
+use Rattle.std.specs.Result.{is_ok}
+use Rattle.action_names.specs.Names.{Name, has_name, is_prefix, parent_of, same_name}
+use Rattle.run_model.specs.declared.answer.Answer.TheVariants as answers
+use Rattle.run_model.specs.declared.step.Step.{Step}
+use Rattle.run_model.specs.declared.step.Step.TheVariants as steps
+use Rattle.run_model.specs.Actions.{is_begun, is_committed, step_commits}
+use Rattle.run_model.specs.Runs.{World}
+use Rattle.run_laws.proofs.Growth.{Follows, committed_stays, here}
+use Rattle.run_laws.proofs.Names.{clash, same_name_self}
+use Rattle.stepping.specs.Beside.{Sees}
+use Rattle.service.specs.Arms.{AreJoined, any_step}
+use Rattle.service.specs.Calling.{ComesToNothing}
+use Rattle.service.specs.Together.{BeginArms, CommitsNoOther, EndsArm, RunsInArm, arms_of}
+use Rattle.service.specs.Transacting.{Began, EndedAndTold, Goes, Settles, Works, finishes, is_below, settles, works_in, works_with}
+use Rattle.service.specs.Working.{Does, IsResultOf}
+use Rattle.service.specs.declared.fault.CallFault.{CallFault}
+use Rattle.service.specs.declared.place.Place.{Place}
+use Rattle.service.proofs.BothArms.{AreSiblings, finishes_commits_no_other, finishes_commits_not, siblings, work_commits_not_beside, work_commits_not_own}
+use Rattle.service.proofs.Concluded.{settles_commits_not}
+use Rattle.service.proofs.Going.{began_within, goes_grows, goes_one, goes_then, goes_wider, kept, prefix_self, step_kept, works_ended}
+use Rattle.service.proofs.Joined.{any_joined, began_there, begins_more, committed_there, one_part, other_part}
+use Rattle.service.proofs.Parts.{begun_is_uncommitted}
+use Rattle.service.proofs.Undone.{work_commits_none}
+
+-- ---- one arm
+
+module _ {J T E : Type 0} {sees : Sees} {does : Does J T E} {comes : CallFault → E → Type 0} (at now : Place) (begun run : World)
+    (before after : J) (kept_result : Option (Result T E)) (e : EndsArm sees does comes at now begun run before after kept_result) where
+  abbrev s : Name
+  s = at.action
+
+  abbrev mid : Option CallFault
+  mid = e.left.left
+
+  pub arm_settles : Settles sees (finishes s) e.worked run mid now.left (EndedAndTold s at.home run)
+  arm_settles =
+      subst (λ h. Settles sees (finishes s) e.worked run mid now.left (EndedAndTold s h run)) e.home
+      (subst (λ c. Settles sees (finishes c) e.worked run mid now.left (EndedAndTold c e.left.home run)) e.action e.ends.ends)
+
+  pub arm_undone : OnErr e.result (Goes sees (settles s) e.worked run)
+  arm_undone = subst (λ c. OnErr e.result (Goes sees (settles c) e.worked run)) e.action e.ends.undone
+
+  pub arm_committed : OnOk e.result (is_committed s run.past ≡ true)
+  arm_committed = subst (λ c. OnOk e.result (is_committed c run.past ≡ true)) e.action e.ends.committed
+
+  -- as steps of any kind
+  pub arm_goes : ∥ Goes sees any_step begun run ∥₁
+  arm_goes =
+      ∥∥₁_map e.works (λ work.
+      goes_then any_step begun e.worked run (goes_wider (works_with work.tops s) any_step begun e.worked (λ _ _. refl) work.goes)
+      (goes_wider (finishes s) any_step e.worked run (λ _ _. refl) arm_settles.goes))
+
+  -- as work of the action
+  pub arm_works : (a : Name) → is_below a s ≡ true → at.left ≡ None → ∥ Works sees a begun run None now.left ∥₁
+  arm_works a below none =
+      ∥∥₁_map e.works (λ work.
+      works_ended a s at.home begun e.worked run None mid now.left below (subst (λ was. Works sees s begun e.worked was mid) none work) arm_settles)
+
+  pub arm_told : now.left ≡ None → EndedAndTold s at.home run
+  arm_told h = let (k, told) = arm_settles.settled h in told
+
+  -- as the work ran in it
+  pub arm_ran : RunsInArm sees does comes s begun before after e.result run
+  arm_ran = record {
+    worked = e.worked;
+    done = e.done;
+    ran = e.ran;
+    ended = arm_settles.goes;
+    gives = subst (λ c. IsResultOf comes (ComesToNothing sees e.worked (steps.Commit c)) e.done e.result) e.action e.ends.gives;
+  }
+
+  -- ---- what it commits
+
+  -- not itself, if it is undone
+  pub commits_not_self : is_begun s begun.past ≡ true → OnErr e.result (is_committed s run.past ≡ is_committed s begun.past)
+  commits_not_self k = by e.result arm_undone
+    where
+      worked_not : is_committed s e.worked.past ≡ is_committed s begun.past
+      worked_not =
+          ∥∥₁_elim e.works (Bool-set (is_committed s e.worked.past) (is_committed s begun.past)) (λ work.
+          work_commits_not_own s begun e.worked at.left mid work k)
+
+      by : (r : Result T E) → OnErr r (Goes sees (settles s) e.worked run) → OnErr r (is_committed s run.past ≡ is_committed s begun.past)
+      by (Ok x) h = tt
+      by (Err x) h = kept (λ step. step_commits step s) (settles s) e.worked run (settles_commits_not s) h ∙ worked_not
+
+  -- no action beside it that began before
+  pub commits_not_beside : (b : Name) → is_prefix s b ≡ false → is_begun b begun.past ≡ true → is_committed b run.past ≡ is_committed b begun.past
+  commits_not_beside b out k =
+      kept (λ step. step_commits step b) (finishes s) e.worked run (finishes_commits_no_other s b out) arm_settles.goes
+      ∙ ∥∥₁_elim e.works (Bool-set (is_committed b e.worked.past) (is_committed b begun.past)) (λ work.
+      work_commits_not_beside s begun e.worked at.left mid work b out k)
+
+  -- and no other child of its action
+  pub commits_no_sibling : (a b : Name) → is_prefix s a ≡ false → parent_of b ≡ a → same_name s b ≡ false
+      → ((t : Name) → Began t begun run → is_prefix t b ≡ false) → is_committed b run.past ≡ is_committed b begun.past
+  commits_no_sibling a b out under differs apart =
+      kept (λ step. step_commits step b) (finishes s) e.worked run (finishes_commits_not s b differs) arm_settles.goes
+      ∙ ∥∥₁_elim e.works (Bool-set (is_committed b e.worked.past) (is_committed b begun.past)) (λ work.
+      work_commits_none a s begun e.worked at.left mid out work b under
+      (λ t h. apart t (began_within t begun begun e.worked run here h (goes_grows (finishes s) e.worked run arm_settles.goes))))
+
+-- ---- both
+
+-- what a result says
+says_by : {T E : Type 0} (r : Result T E) (b : Bool) → OnOk r (b ≡ true) → OnErr r (b ≡ false) → b ≡ is_ok r
+says_by (Ok x) b ok err = ok
+says_by (Err x) b ok err = err
+
+on_ok : {T E : Type 0} (r : Result T E) {P Q : Type 0} → (P → Q) → OnOk r P → OnOk r Q
+on_ok (Ok x) f p = f p
+on_ok (Err x) f p = tt
+
+on_err : {T E : Type 0} (r : Result T E) {P Q : Type 0} → (P → Q) → OnErr r P → OnErr r Q
+on_err (Ok x) f p = tt
+on_err (Err x) f p = f p
+
+-- tests that imply one another
+same_if_both : (b c : Bool) → (b ≡ true → c ≡ true) → (c ≡ true → b ≡ true) → b ≡ c
+same_if_both true c f g = sym (f refl)
+same_if_both false true f g = g refl
+same_if_both false false f g = refl
+
+module _ {sees : Sees} (a s t : Name) (x begun : World) (begins : BeginArms sees a s t x begun) where
+  abbrev kin : AreSiblings a s t
+  kin = siblings a s t x begun begins
+
+  begun_both : (b : Name) → has_name (s ∷ t ∷ []) b ≡ true → is_begun b begun.past ≡ true
+  begun_both b i =
+      ap (λ (w : World). is_begun b w.past) begins.after ∙ begins_more (record { step = arms_of a; answer = answers.Began (s ∷ t ∷ []) }) x.past b i
+
+  pub one_begun : is_begun s begun.past ≡ true
+  one_begun = begun_both s (or_left _ _ (same_name_self s))
+
+  pub other_begun : is_begun t begun.past ≡ true
+  other_begun = begun_both t (or_right (same_name s t) _ (or_left _ _ (same_name_self t)))
+
+  arms_kept : (b : Name) → is_committed b begun.past ≡ is_committed b x.past
+  arms_kept b = step_kept (λ step. step_commits step b) (arms_of a) (answers.Began (s ∷ t ∷ [])) x begun refl begins.after
+
+  uncommitted : (b : Name) → has_name (s ∷ t ∷ []) b ≡ true → is_committed b begun.past ≡ false
+  uncommitted b i =
+      arms_kept b ∙ begun_is_uncommitted x (arms_of a) (answers.Began (s ∷ t ∷ [])) begins.answer refl b i
+
+  pub above_not : (b : Name) → is_below a b ≡ true → is_prefix b a ≡ false
+  above_not b below = not-true (is_prefix b a) (and_parts (is_prefix a b) _ below).1
+
+  module _ (one other new : World) (j : AreJoined sees begun one other new) where
+    -- what neither arm committed was not committed
+    uncommitted_by : (b : Name) → is_committed b one.past ≡ false → is_committed b other.past ≡ false → is_committed b new.past ≡ false
+    uncommitted_by b p q =
+        false_from_ne_true _ (λ h.
+        elim (any_joined begun one other new j (λ e. step_commits e.step b) h) [ inl k ↦ clash k p | inr k ↦ clash k q ])
+
+    pub one_says : {T E : Type 0} (gave : Result T E) → OnOk gave (is_committed s one.past ≡ true)
+        → OnErr gave (is_committed s one.past ≡ is_committed s begun.past) → is_committed s other.past ≡ is_committed s begun.past
+        → is_committed s new.past ≡ is_ok gave
+    one_says gave ok err beside =
+        let not_yet = uncommitted s (or_left _ _ (same_name_self s)) in
+        says_by gave (is_committed s new.past) (on_ok gave (committed_there begun one new j.of_one j.of_both (one_part j.merge) s) ok)
+        (on_err gave (λ same. uncommitted_by s (same ∙ not_yet) (beside ∙ not_yet)) err)
+
+    pub other_says : {T E : Type 0} (gave : Result T E) → OnOk gave (is_committed t other.past ≡ true)
+        → OnErr gave (is_committed t other.past ≡ is_committed t begun.past) → is_committed t one.past ≡ is_committed t begun.past
+        → is_committed t new.past ≡ is_ok gave
+    other_says gave ok err beside =
+        let not_yet = uncommitted t (or_right (same_name s t) _ (or_left _ _ (same_name_self t))) in
+        says_by gave (is_committed t new.past) (on_ok gave (committed_there begun other new j.of_other j.of_both (other_part j.merge) t) ok)
+        (on_err gave (λ same. uncommitted_by t (beside ∙ not_yet) (same ∙ not_yet)) err)
+
+    grows : Follows begun.past new.past
+    grows = goes_grows any_step begun new j.of_both
+
+    first : Follows x.past begun.past
+    first =
+        goes_grows (works_in a) x begun
+        (goes_one {sees = sees} (works_in a) (arms_of a) (answers.Began (s ∷ t ∷ [])) x begun (prefix_self a) begins.answer begins.after)
+
+    -- a child that neither arm committed is as it was
+    child_kept : (b : Name) → is_committed b one.past ≡ is_committed b begun.past → is_committed b other.past ≡ is_committed b begun.past
+        → is_committed b new.past ≡ is_committed b x.past
+    child_kept b p q =
+        same_if_both (is_committed b new.past) (is_committed b begun.past)
+        (λ h.
+        elim (any_joined begun one other new j (λ e. step_commits e.step b) h) [ inl k ↦ sym p ∙ k | inr k ↦ sym q ∙ k ])
+        (committed_stays b grows)
+        ∙ arms_kept b
+
+    -- what began in an arm began in between
+    began_by_one : (u : Name) → Began u begun one → Began u x new
+    began_by_one u h =
+        began_within u x begun new new first (began_there begun one new j.of_one j.of_both (one_part j.merge) u h) here
+
+    began_by_other : (u : Name) → Began u begun other → Began u x new
+    began_by_other u h =
+        began_within u x begun new new first (began_there begun other new j.of_other j.of_both (other_part j.merge) u h) here
+
+    pub commits_no_other : ((b : Name) → parent_of b ≡ a → same_name s b ≡ false → ((u : Name) → Began u begun one → is_prefix u b ≡ false)
+        → is_committed b one.past ≡ is_committed b begun.past)
+        → ((b : Name) → parent_of b ≡ a → same_name t b ≡ false → ((u : Name) → Began u begun other → is_prefix u b ≡ false)
+        → is_committed b other.past ≡ is_committed b begun.past)
+        → CommitsNoOther a s t x new
+    commits_no_other by_one by_other b under not_s not_t apart =
+        child_kept b (by_one b under not_s (λ u h. apart u (began_by_one u h))) (by_other b under not_t (λ u h. apart u (began_by_other u h)))
