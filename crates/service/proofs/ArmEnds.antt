@@ -1,17 +1,20 @@
 -- How an arm ends, by what came of its work.
-use Rattle.std.proofs.Common.{Err, List, Ok, Result, inl, refl, subst, sym, true, ℕ, ◌≡◌}
+use Rattle.std.proofs.Common.{Err, List, Ok, Option, Result, inl, refl, subst, sym, true, ℕ, ◌≡◌}
+use Rattle.std.proofs.Math.Logic.{∥∥₁_map}
 use Rattle.std.specs.Prelude.{OnOk}
 use Rattle.std.specs.Result.{IsErrAnd}
+use Rattle.action_names.specs.Names.{Name}
 use Rattle.run_model.specs.declared.step.Step.TheVariants as steps
 use Rattle.run_model.specs.Actions.{is_committed}
 use Rattle.run_model.specs.Runs.{World}
 use Rattle.stepping.specs.Beside.{Sees}
+use Rattle.service.specs.Arms.{any_step}
 use Rattle.service.specs.Calling.{ComesToNothing}
 use Rattle.service.specs.Together.{HasRoomAgain, IsEndOf}
-use Rattle.service.specs.Transacting.{EndedAndTold, Goes, Includes, Settles, finishes, settles}
+use Rattle.service.specs.Transacting.{EndedAndTold, Goes, Includes, Settles, Works, finishes, settles, works_with}
 use Rattle.service.specs.declared.fault.CallFault.{CallFault}
 use Rattle.service.specs.declared.place.Place.{Place}
-use Rattle.service.proofs.Going.{settles_finishes, settles_wider}
+use Rattle.service.proofs.Going.{goes_then, goes_wider, settles_finishes, settles_wider}
 use Rattle.service.proofs.Undone.{if_error}
 use Rattle.service.proofs.Working.{failed_of}
 
@@ -67,3 +70,12 @@ module _ {T E : Type 0} {sees : Sees} {comes : CallFault → E → Type 0} (at n
     room = tt;
     undone = ends.goes;
   }
+
+module _ {sees : Sees} where
+  -- what an arm does, as steps of any kind
+  pub run_goes : (s t : Name) (x y z : World) (was mid is : Option CallFault) (So : Type 0) → ∥ Works sees s x y was mid ∥₁
+      → Settles sees (finishes t) y z mid is So → ∥ Goes sees any_step x z ∥₁
+  run_goes s t x y z was mid is So works ends =
+      ∥∥₁_map works (λ work.
+      goes_then any_step x y z (goes_wider (works_with work.tops s) any_step x y (λ _ _. refl) work.goes)
+      (goes_wider (finishes t) any_step y z (λ _ _. refl) ends.goes))

@@ -17,13 +17,13 @@ use Rattle.stepping.specs.Beside.{Sees}
 use Rattle.service.specs.Arms.{AreJoined, any_step}
 use Rattle.service.specs.Calling.{ComesToNothing}
 use Rattle.service.specs.Together.{BeginArms, CommitsNoOther, EndsArm, RunsInArm, arms_of}
-use Rattle.service.specs.Transacting.{Began, EndedAndTold, Goes, Settles, Works, finishes, is_below, settles, works_in, works_with}
+use Rattle.service.specs.Transacting.{Began, EndedAndTold, Goes, Settles, Works, finishes, is_below, settles, works_in}
 use Rattle.service.specs.Working.{Does, IsResultOf}
 use Rattle.service.specs.declared.fault.CallFault.{CallFault}
 use Rattle.service.specs.declared.place.Place.{Place}
 use Rattle.service.proofs.BothArms.{AreSiblings, finishes_commits_no_other, finishes_commits_not, siblings, work_commits_not_beside, work_commits_not_own}
 use Rattle.service.proofs.Concluded.{settles_commits_not}
-use Rattle.service.proofs.Going.{began_within, goes_grows, goes_one, goes_then, goes_wider, kept, prefix_self, step_kept, works_ended}
+use Rattle.service.proofs.Going.{began_within, goes_grows, goes_one, kept, prefix_self, step_kept, works_ended}
 use Rattle.service.proofs.Joined.{any_joined, began_there, begins_more, committed_there, one_part, other_part}
 use Rattle.service.proofs.Parts.{begun_is_uncommitted}
 use Rattle.service.proofs.Undone.{work_commits_none}
@@ -48,13 +48,6 @@ module _ {J T E : Type 0} {sees : Sees} {does : Does J T E} {comes : CallFault �
 
   pub arm_committed : OnOk e.result (is_committed s run.past ≡ true)
   arm_committed = subst (λ c. OnOk e.result (is_committed c run.past ≡ true)) e.action e.ends.committed
-
-  -- as steps of any kind
-  pub arm_goes : ∥ Goes sees any_step begun run ∥₁
-  arm_goes =
-      ∥∥₁_map e.works (λ work.
-      goes_then any_step begun e.worked run (goes_wider (works_with work.tops s) any_step begun e.worked (λ _ _. refl) work.goes)
-      (goes_wider (finishes s) any_step e.worked run (λ _ _. refl) arm_settles.goes))
 
   -- as work of the action
   pub arm_works : (a : Name) → is_below a s ≡ true → at.left ≡ None → ∥ Works sees a begun run None now.left ∥₁

@@ -1,6 +1,7 @@
 pub mod Again
 pub mod Alone
 pub mod ArmEnds
+pub mod ArmsBegin
 pub mod BothArms
 pub mod BothRan
 pub mod CalledOff

@@ -1,0 +1,67 @@
+-- Arms that begin, as calls.
+use Rattle.std.proofs.Common.{List, Ok, Option, None, Some, [], ap, subst, suc, sym, ◌∙◌, ◌∷◌, ◌≡◌}
+use Rattle.action_names.specs.Names.{Name, child_of}
+use Rattle.run_model.specs.declared.answer.Answer.TheVariants as answers
+use Rattle.run_model.specs.declared.answer.Refusal.{Refusal}
+use Rattle.run_model.specs.declared.history.Event.{Event}
+use Rattle.run_model.specs.declared.step.ArmKind.{ArmKind}
+use Rattle.run_model.specs.declared.step.ArmKind.TheVariants as kinds
+use Rattle.run_model.specs.declared.step.Step.TheVariants as steps
+use Rattle.run_model.specs.Actions.{next_number}
+use Rattle.run_model.specs.Answers.{answer_of, outcome, refused_or}
+use Rattle.run_model.specs.Openings.{Opening, opening_in}
+use Rattle.run_model.specs.Refusals.{checks, first_refusal}
+use Rattle.run_model.specs.Runs.{World, world_after}
+use Rattle.stepping.specs.Beside.{IsAnsweredTo, Sees}
+use Rattle.stepping.specs.Stepping.{Leaves}
+use Rattle.service.specs.Calling.{BeganThese, IsCall}
+use Rattle.service.specs.Opening.{BeganBoth}
+use Rattle.service.specs.Together.{BeginArms, arms_of}
+use Rattle.service.specs.declared.place.Place.{Place}
+
+-- two arms have two names
+names_of_two : (opening : Opening) (a : Name) (past : List Event) (names : List Name) → answer_of opening (arms_of a) past ≡ answers.Began names
+    → names ≡ child_of a (next_number opening a past) ∷ child_of a (suc (next_number opening a past)) ∷ []
+unfolding answer_of
+names_of_two opening a past names h = by (first_refusal (checks opening (arms_of a) past)) h
+  where
+    by : (o : Option Refusal) → refused_or o (outcome opening (arms_of a) past) ≡ answers.Began names
+        → names ≡ child_of a (next_number opening a past) ∷ child_of a (suc (next_number opening a past)) ∷ []
+    by None h = cc
+    by (Some why) h = cc
+
+module _ {M : Type 0} (run : M → World) (sees : Sees) (leaves : Leaves M) (a : Name) (old new : M) where
+  -- the call of the two kinds
+  pub of_two : (given : List ArmKind) (names : List Name) → given ≡ kinds.Sub ∷ kinds.Sub ∷ []
+      → IsCall run sees leaves (steps.Arms a given) BeganThese old new (Ok names) → IsCall run sees leaves (arms_of a) BeganThese old new (Ok names)
+  of_two given names e call = subst (λ ks. IsCall run sees leaves (steps.Arms a ks) BeganThese old new (Ok names)) e call
+
+  pub two_named : (names : List Name) → IsCall run sees leaves (arms_of a) BeganThese old new (Ok names)
+      → (one : Name) × (other : Name) × (names ≡ one ∷ other ∷ [])
+  two_named names call =
+      let at = call.gives.made.answered in (
+        child_of a (next_number (opening_in (run old).lists) a at.seen),
+        child_of a (suc (next_number (opening_in (run old).lists) a at.seen)),
+        names_of_two (opening_in (run old).lists) a at.seen names (sym at.answered ∙ call.gives.shows),
+      )
+
+  -- the places of both
+  pub begun_both : (names : List Name) (one other : Place) → names ≡ one.action ∷ other.action ∷ []
+      → IsCall run sees leaves (arms_of a) BeganThese old new (Ok names) → IsCall run sees leaves (arms_of a) BeganBoth old new (Ok (one, other))
+  begun_both names one other e call = record {
+    gives = record {
+      answer = call.gives.answer;
+      made = call.gives.made;
+      shows = subst (λ ns. BeganThese ns call.gives.answer) e call.gives.shows;
+    };
+    why = tt;
+    same = tt;
+    stores = tt;
+  }
+
+  pub begins_by_both : (arms : Place × Place) → IsCall run sees leaves (arms_of a) BeganBoth old new (Ok arms)
+      → BeginArms sees a arms.0.action arms.1.action (run old) (run new)
+  begins_by_both (one, other) call = record {
+    answer = subst (IsAnsweredTo sees (run old) (arms_of a)) call.gives.shows call.gives.made.answered;
+    after = call.gives.made.after ∙ ap (λ answer. world_after (run old) (arms_of a) answer) call.gives.shows;
+  }
