@@ -14,12 +14,16 @@ pub trait Arm<W: MakesOwnSteps + Drop> {
     /// That it may run from this run on.
     ghost may_run: { Self → World → Type 0 };
 
+    /// That it borrows what it borrowed before.
+    ghost keeps: { Self → Self → Type 0 };
+
     /// That it ran from a run on, and how it and its run are then.
     ghost does: { ArmDoes Self };
 
     /// Runs from what has happened so far.
     fn run(&mut self, service: &mut Service<W>)
         requires { may_run self.old (W.run service.old.world) }
+        ensures keeps { keeps self.old self.new }
         ensures goes { ∥ Goes W.sees any_step (W.run service.old.world) (W.run service.new.world) ∥₁ }
         ensures does { does self.old (W.run service.old.world) self.new (W.run service.new.world) };
 }
@@ -40,6 +44,8 @@ pub trait RunsArms: MakesOwnSteps + Drop + Sized {
         requires other { B.may_run other.old (Self.run self.old) }
         ensures run { OnOk result (∥ HaveRun Self.sees A.does B.does (Self.run self.old)
             (Self.run self.new) one.old one.new other.old other.new ∥₁) }
+        ensures one_keeps { A.keeps one.old one.new }
+        ensures other_keeps { B.keeps other.old other.new }
         ensures err { OnErr result (Self.run self.new ≡ Self.run self.old) }
         ensures one { OnErr result (one.new ≡ one.old) }
         ensures other { OnErr result (other.new ≡ other.old) };

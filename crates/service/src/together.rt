@@ -37,9 +37,10 @@ impl<'j, W: MakesOwnSteps + Drop, J: Work<W>> Arm<W> for InArm<'j, W, J> {
 
     ghost may_run = { λ arm begun. began_at arm.at.home arm.at.action begun.past ≡ true };
 
-    ghost does = { λ old begun new run. (new.work.ghost_name ≡ old.work.ghost_name)
-        × EndsArm W.sees J.does J.Error.from_gives old.at new.at begun run
-        old.work.now new.work.now new.done };
+    ghost keeps = { λ old new. new.work.ghost_name ≡ old.work.ghost_name };
+
+    ghost does = { λ old begun new run. EndsArm W.sees J.does J.Error.from_gives old.at new.at
+        begun run old.work.now new.work.now new.done };
 
     fn run(&mut self, service: &mut Service<W>) {
         let done = work_in::<Brand, W, J>(service, &mut self.at, self.work);

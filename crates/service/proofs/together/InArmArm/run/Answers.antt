@@ -24,19 +24,16 @@ pub returns-clause-goes : goal.returns-clause-goes
 returns-clause-goes g c = run_goes _ _ _ _ _ _ _ _ _ c.work_in-done.ensures.works c.end_arm.ensures.ends
 
 pub returns-clause-does : goal.returns-clause-does
-returns-clause-does g c = (
-  refl,
-  record {
-    worked = g.W.MakesOwnSteps.run c.work_in-done.new.service.world;
-    left = c.work_in-done.new.at;
-    done = c.work_in-done.result;
-    result = c.end_arm.result;
-    is = refl;
-    ran = c.work_in-done.ensures.does;
-    action = c.work_in-done.ensures.action;
-    home = c.work_in-done.ensures.home;
-    reached = c.work_in-done.ensures.reached;
-    works = c.work_in-done.ensures.works;
-    ends = c.end_arm.ensures;
-  },
-)
+returns-clause-does g c = record {
+  worked = g.W.MakesOwnSteps.run c.work_in-done.new.service.world;
+  left = c.work_in-done.new.at;
+  done = c.work_in-done.result;
+  result = c.end_arm.result;
+  is = refl;
+  ran = c.work_in-done.ensures.does;
+  action = c.work_in-done.ensures.action;
+  home = c.work_in-done.ensures.home;
+  reached = c.work_in-done.ensures.reached;
+  works = c.work_in-done.ensures.works;
+  ends = c.end_arm.ensures;
+}
