@@ -1,8 +1,11 @@
 -- Two arms that ran at once and ended, as the action's transaction sees them.
 use Rattle.std.proofs.Common.{None, Option, Result, Some, subst, true, ℕ, ◌≡◌}
+use mathlib.Core.Bool.{Bool-set}
 use Rattle.std.proofs.Math.Logic.{∥∥₁_elim, ∥∥₁_map, ∥∥₁_prop}
 use Rattle.std.specs.Option.{option_or}
+use Rattle.std.specs.Result.{is_ok}
 use Rattle.action_names.specs.Names.{Name}
+use Rattle.run_model.specs.Actions.{is_committed}
 use Rattle.run_model.specs.Runs.{World}
 use Rattle.stepping.specs.Beside.{Sees}
 use Rattle.service.specs.Arms.{AreJoined}
@@ -18,7 +21,7 @@ module _ {J T E K U F : Type 0} {sees : Sees} {does : Does J T E} {also_does : D
     {also_comes : CallFault → F → Type 0} (a : Name) (x begun one other new : World) (s_at s_now t_at t_now : Place) (before after : J)
     (also_before also_after : K) (s_kept : Option (Result T E)) (t_kept : Option (Result U F))
     (p : EndsArm sees does comes s_at s_now begun one before after s_kept)
-    (q : EndsArm sees also_does also_comes t_at t_now begun other also_before also_after t_kept) (j : AreJoined sees begun one other new)
+    (q : EndsArm sees also_does also_comes t_at t_now begun other also_before also_after t_kept) (j : ∥ AreJoined sees begun one other new ∥₁)
     (begins : BeginArms sees a s_at.action t_at.action x begun) where
   abbrev s : Name
   s = s_at.action
@@ -44,26 +47,31 @@ module _ {J T E K U F : Type 0} {sees : Sees} {does : Does J T E} {also_does : D
         second_ran = arm_ran t_at t_now begun other also_before also_after t_kept q;
         joined = j;
         first_says =
-            one_says a s t x begun begins one other new j p.result (arm_committed s_at s_now begun one before after s_kept p)
+            ∥∥₁_elim j (Bool-set (is_committed s new.past) (is_ok p.result)) (λ k.
+            one_says a s t x begun begins one other new k p.result (arm_committed s_at s_now begun one before after s_kept p)
             (commits_not_self s_at s_now begun one before after s_kept p s_begun)
-            (commits_not_beside t_at t_now begun other also_before also_after t_kept q s kin.other_apart s_begun);
+            (commits_not_beside t_at t_now begun other also_before also_after t_kept q s kin.other_apart s_begun));
         second_says =
-            other_says a s t x begun begins one other new j q.result (arm_committed t_at t_now begun other also_before also_after t_kept q)
+            ∥∥₁_elim j (Bool-set (is_committed t new.past) (is_ok q.result)) (λ k.
+            other_says a s t x begun begins one other new k q.result (arm_committed t_at t_now begun other also_before also_after t_kept q)
             (commits_not_self t_at t_now begun other also_before also_after t_kept q t_begun)
-            (commits_not_beside s_at s_now begun one before after s_kept p t kin.one_apart t_begun);
-        no_other =
-            commits_no_other a s t x begun begins one other new j
-            (λ b under differs apart.
-            commits_no_sibling s_at s_now begun one before after s_kept p a b (above_not a s t x begun begins s kin.one_below) under differs apart)
-            (λ b under differs apart.
-            commits_no_sibling t_at t_now begun other also_before also_after t_kept q a b (above_not a s t x begun begins t kin.other_below) under differs apart);
+            (commits_not_beside s_at s_now begun one before after s_kept p t kin.one_apart t_begun));
+        no_other = λ b under not_s not_t above.
+            ∥∥₁_elim j (Bool-set (is_committed b new.past) (is_committed b x.past)) (λ k.
+            commits_no_other a s t x begun begins one other new k
+            (λ c is differs apart.
+            commits_no_sibling s_at s_now begun one before after s_kept p a c (above_not a s t x begun begins s kin.one_below) is differs apart)
+            (λ c is differs apart.
+            commits_no_sibling t_at t_now begun other also_before also_after t_kept q a c (above_not a s t x begun begins t kin.other_below) is differs apart)
+            b under not_s not_t above);
       }
 
   pub both_worked : (home : ℕ) (was : Option CallFault) → began_at home a x.past ≡ true → s_at.home ≡ home → t_at.home ≡ home → s_at.left ≡ None
       → t_at.left ≡ None → ∥ Works sees a x new was (option_or (option_or was s_now.left) t_now.left) ∥₁
   both_worked home was there s_home t_home s_none t_none =
+      ∥∥₁_elim j ∥∥₁_prop (λ k.
       ∥∥₁_elim (arm_works s_at s_now begun one before after s_kept p a kin.one_below s_none) ∥∥₁_prop (λ u.
       ∥∥₁_map (arm_works t_at t_now begun other also_before also_after t_kept q a kin.other_below t_none) (λ v.
-      works_of_arms a begun one other new j (begun_arms a s t x begun begins) s_now.left t_now.left u v x s t home was begins there
+      works_of_arms a begun one other new k (begun_arms a s t x begun begins) s_now.left t_now.left u v x s t home was begins there
       (λ h. subst (λ g. EndedAndTold s g one) s_home (arm_told s_at s_now begun one before after s_kept p h))
-      (λ h. subst (λ g. EndedAndTold t g other) t_home (arm_told t_at t_now begun other also_before also_after t_kept q h))))
+      (λ h. subst (λ g. EndedAndTold t g other) t_home (arm_told t_at t_now begun other also_before also_after t_kept q h)))))

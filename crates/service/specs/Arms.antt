@@ -37,4 +37,4 @@ module _ (sees : Sees) where
     pub other_run : World
     pub one_ran : does_one one begun one_after one_run
     pub other_ran : does_other other begun other_after other_run
-    pub joined : AreJoined begun one_run other_run new
+    pub joined : ∥ AreJoined begun one_run other_run new ∥₁

@@ -107,7 +107,7 @@ module _ {J T E K U F : Type 0} (sees : Sees) (does : Does J T E) (also_does : D
     pub first_ran : RunsInArm sees does comes first begun one one_after gave first_run
     pub second_ran : RunsInArm sees also_does also_comes second begun other other_after also_gave
         second_run
-    pub joined : AreJoined sees begun first_run second_run new
+    pub joined : ∥ AreJoined sees begun first_run second_run new ∥₁
     pub first_says : is_committed first new.past ≡ is_ok gave
     pub second_says : is_committed second new.past ≡ is_ok also_gave
     pub no_other : CommitsNoOther a first second old new

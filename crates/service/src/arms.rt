@@ -42,8 +42,8 @@ pub trait RunsArms: MakesOwnSteps + Drop + Sized {
     ) -> Result<(), Fault>
         requires one { A.may_run one.old (Self.run self.old) }
         requires other { B.may_run other.old (Self.run self.old) }
-        ensures run { OnOk result (∥ HaveRun Self.sees A.does B.does (Self.run self.old)
-            (Self.run self.new) one.old one.new other.old other.new ∥₁) }
+        ensures run { OnOk result (HaveRun Self.sees A.does B.does (Self.run self.old)
+            (Self.run self.new) one.old one.new other.old other.new) }
         ensures one_keeps { A.keeps one.old one.new }
         ensures other_keeps { B.keeps other.old other.new }
         ensures err { OnErr result (Self.run self.new ≡ Self.run self.old) }

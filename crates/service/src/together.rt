@@ -146,9 +146,9 @@ where
     ensures reached { Includes at.old.reached.items at.new.reached.items }
     ensures works { ∥ Works W.sees at.old.action (W.run service.old.world) (W.run service.new.world)
         at.old.left at.new.left ∥₁ }
-    ensures ran { IfOk result (λ gave. ∥ RanTogether W.sees A.does B.does A.Error.from_gives
+    ensures ran { IfOk result (λ gave. RanTogether W.sees A.does B.does A.Error.from_gives
         B.Error.from_gives at.old.action (W.run service.old.world) (W.run service.new.world)
-        one.old one.new other.old other.new gave.0 gave.1 ∥₁) }
+        one.old one.new other.old other.new gave.0 gave.1) }
     ensures not { IfErr result (λ fault. RanNot W.sees at.old.action (W.run service.old.world)
         (W.run service.new.world) fault) }
     ensures undone { OnErr result (CommitsNoChild at.old.action (W.run service.old.world)

@@ -133,10 +133,10 @@ impl<'s, W: RunsArms, B: Begun> Transaction<'s, W, B> {
         K::Error: Send,
         ensures same_service { self.new.service.ghost_name ≡ self.old.service.ghost_name }
         ensures same_action { self.new.at.ghost_name ≡ self.old.at.ghost_name }
-        ensures ran { IfOk result (λ gave. ∥ RanTogether W.sees J.does K.does J.Error.from_gives
+        ensures ran { IfOk result (λ gave. RanTogether W.sees J.does K.does J.Error.from_gives
             K.Error.from_gives self.old.at.now.action (W.run self.old.service.now.world)
             (W.run self.new.service.now.world) one.old one.new other.old other.new
-            gave.0 gave.1 ∥₁) }
+            gave.0 gave.1) }
         ensures not { IfErr result (λ fault. RanNot W.sees self.old.at.now.action
             (W.run self.old.service.now.world) (W.run self.new.service.now.world) fault) }
         ensures undone { OnErr result (CommitsNoChild self.old.at.now.action
