@@ -8,8 +8,8 @@ use Rattle.run_model.specs.declared.history.Event.{Event}
 use Rattle.run_model.specs.declared.step.Step.{Step}
 use Rattle.run_model.specs.Answers.{answer_of}
 use Rattle.run_model.specs.Openings.{Opening, opening_in}
-use Rattle.run_model.specs.Runs.{World, history_after, history_from, is_accepted}
-use Rattle.stepping.specs.Beside.{SeesOwn}
+use Rattle.run_model.specs.Runs.{history_after, history_from, is_accepted}
+use Rattle.stepping.specs.Beside.{OwnRun, SeesOwn}
 use Rattle.stepping.proofs.Beside.{alone}
 use Rattle.service.specs.Transacting.{AreOwn, GoesByItself}
 
@@ -27,12 +27,12 @@ after_one : (step : Step) (answer : Answer) (past : List Event) → IsTrue (is_a
 after_one step answer past accepted = ap (λ b. if b then record { step = step; answer = answer } ∷ past else past) accepted
 
 -- the steps of events, the oldest first
-own_steps : (mine : Step → Bool) (old : World) (later : List Event) → AreOwn SeesOwn mine old later
+own_steps : (mine : Step → Bool) (old : OwnRun) (later : List Event) → AreOwn SeesOwn mine old later
     → (made : List Step) × (list_all mine made ≡ true) × (later ++ old.past ≡ history_from (opening_in old.lists) old.past made)
 own_steps mine old [] own = ([], refl, refl)
 own_steps mine old (e ∷ later) own =
     let (made, all, so_far) = own_steps mine old later own.3 in
-    let now : World = record { lists = old.lists; past = later ++ old.past } in
+    let now : OwnRun = record old { past = later ++ old.past } in
     let is = (alone now e.step e.answer own.2).0 in (
       made ++ e.step ∷ [],
       all_append mine made (e.step ∷ []) all (and_from _ _ own.0 refl),

@@ -6,8 +6,7 @@ use Rattle.std.specs.Result.{IsErrAnd}
 use Rattle.action_names.specs.Names.{Name}
 use Rattle.run_model.specs.declared.step.Step.TheVariants as steps
 use Rattle.run_model.specs.Actions.{is_committed}
-use Rattle.run_model.specs.Runs.{World}
-use Rattle.stepping.specs.Beside.{Sees}
+use Rattle.stepping.specs.Beside.{OwnRun, Sees}
 use Rattle.service.specs.Arms.{any_step}
 use Rattle.service.specs.Calling.{ComesToNothing}
 use Rattle.service.specs.Together.{HasRoomAgain, IsEndOf}
@@ -26,7 +25,7 @@ not_ok (Err x) So h = tt
 includes_same : (xs ys : List ℕ) → ys ≡ xs → Includes xs ys
 includes_same xs ys e = subst (Includes xs) (sym e) (λ n h. h)
 
-module _ {T E : Type 0} {sees : Sees} {comes : CallFault → E → Type 0} (at now : Place) (worked run : World) (same : now.action ≡ at.action)
+module _ {T E : Type 0} {sees : Sees} {comes : CallFault → E → Type 0} (at now : Place) (worked run : OwnRun) (same : now.action ≡ at.action)
     (reached : now.reached.items ≡ at.reached.items) where
   -- the work gave a value, and the arm committed
   pub ended_ok : (x : T) → Settles sees (finishes at.action) worked run at.left now.left (EndedAndTold at.action at.home run)
@@ -73,7 +72,7 @@ module _ {T E : Type 0} {sees : Sees} {comes : CallFault → E → Type 0} (at n
 
 module _ {sees : Sees} where
   -- what an arm does, as steps of any kind
-  pub run_goes : (s t : Name) (x y z : World) (was mid is : Option CallFault) (So : Type 0) → ∥ Works sees s x y was mid ∥₁
+  pub run_goes : (s t : Name) (x y z : OwnRun) (was mid is : Option CallFault) (So : Type 0) → ∥ Works sees s x y was mid ∥₁
       → Settles sees (finishes t) y z mid is So → ∥ Goes sees any_step x z ∥₁
   run_goes s t x y z was mid is So works ends =
       ∥∥₁_map works (λ work.

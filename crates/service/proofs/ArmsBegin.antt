@@ -11,8 +11,7 @@ use Rattle.run_model.specs.Actions.{next_number}
 use Rattle.run_model.specs.Answers.{answer_of, outcome, refused_or}
 use Rattle.run_model.specs.Openings.{Opening, opening_in}
 use Rattle.run_model.specs.Refusals.{checks, first_refusal}
-use Rattle.run_model.specs.Runs.{World, world_after}
-use Rattle.stepping.specs.Beside.{IsAnsweredTo, Sees}
+use Rattle.stepping.specs.Beside.{IsAnsweredTo, OwnRun, Sees, own_after}
 use Rattle.stepping.specs.Stepping.{Leaves}
 use Rattle.service.specs.Calling.{BeganThese, IsCall}
 use Rattle.service.specs.Opening.{BeganBoth}
@@ -30,7 +29,7 @@ names_of_two opening a past names h = by (first_refusal (checks opening (arms_of
     by None h = cc
     by (Some why) h = cc
 
-module _ {M : Type 0} (run : M → World) (sees : Sees) (leaves : Leaves M) (a : Name) (old new : M) where
+module _ {M : Type 0} (run : M → OwnRun) (sees : Sees) (leaves : Leaves M) (a : Name) (old new : M) where
   -- the call of the two kinds
   pub of_two : (given : List ArmKind) (names : List Name) → given ≡ kinds.Sub ∷ kinds.Sub ∷ []
       → IsCall run sees leaves (steps.Arms a given) BeganThese old new (Ok names) → IsCall run sees leaves (arms_of a) BeganThese old new (Ok names)
@@ -63,5 +62,5 @@ module _ {M : Type 0} (run : M → World) (sees : Sees) (leaves : Leaves M) (a :
       → BeginArms sees a arms.0.action arms.1.action (run old) (run new)
   begins_by_both (one, other) call = record {
     answer = subst (IsAnsweredTo sees (run old) (arms_of a)) call.gives.shows call.gives.made.answered;
-    after = call.gives.made.after ∙ ap (λ answer. world_after (run old) (arms_of a) answer) call.gives.shows;
+    after = call.gives.made.after ∙ ap (λ answer. own_after (run old) (arms_of a) answer) call.gives.shows;
   }

@@ -13,13 +13,12 @@ use Rattle.run_model.specs.Actions.{is_begun, is_committed, next_number, step_co
 use Rattle.run_model.specs.Answers.{answer_of, outcome, refused_or}
 use Rattle.run_model.specs.Openings.{Opening, opening_in}
 use Rattle.run_model.specs.Refusals.{checks, first_refusal}
-use Rattle.run_model.specs.Runs.{World}
 use Rattle.run_model.specs.Telling.{told_since_crash}
 use Rattle.run_model.specs.Votes.{step_votes}
 use Rattle.run_laws.proofs.Begun.{ancestor_begun, begun_cases, begun_once}
 use Rattle.run_laws.proofs.Growth.{begun_stays, followed}
 use Rattle.run_laws.proofs.Names.{clash, parent_child, same_name_self, same_name_true}
-use Rattle.stepping.specs.Beside.{Sees}
+use Rattle.stepping.specs.Beside.{OwnRun, Sees}
 use Rattle.service.specs.Arms.{AreJoined, any_step}
 use Rattle.service.specs.Together.{BeginArms, arms_of}
 use Rattle.service.specs.Transacting.{AllSettled, AllVotersTold, AreOwn, Began, EndedAndTold, FallsShort, Goes, IsSettled, Works, began_at, begins_arms, belongs, finishes, in_arm, is_below, works_with}
@@ -64,7 +63,7 @@ pub record AreSiblings (a one other : Name) : Type 0 where
   pub other_apart : is_prefix other one ≡ false
 
 module _ {sees : Sees} where
-  pub siblings : (a one other : Name) (x begun : World) → BeginArms sees a one other x begun → AreSiblings a one other
+  pub siblings : (a one other : Name) (x begun : OwnRun) → BeginArms sees a one other x begun → AreSiblings a one other
   siblings a one other x begun begins =
       let opening = opening_in x.lists in
       let n = next_number opening a begins.answer.seen in
@@ -82,18 +81,18 @@ module _ {sees : Sees} where
             (subst (λ c. is_prefix c (child_of a n) ≡ false) (sym q) (children_apart a (suc n) n (more_than_before n)));
       }
 
-  pub begun_arms : (a s t : Name) (x begun : World) → BeginArms sees a s t x begun → begins_arms begun.past ≡ true
-  begun_arms a s t x begun begins = ap (λ (w : World). begins_arms w.past) begins.after
+  pub begun_arms : (a s t : Name) (x begun : OwnRun) → BeginArms sees a s t x begun → begins_arms begun.past ≡ true
+  begun_arms a s t x begun begins = ap (λ (w : OwnRun). begins_arms w.past) begins.after
 
   -- an arm began at the action's home
-  pub arm_began : (a s t : Name) (x begun : World) → BeginArms sees a s t x begun → (home : ℕ) → began_at home a x.past ≡ true → (b : Name)
+  pub arm_began : (a s t : Name) (x begun : OwnRun) → BeginArms sees a s t x begun → (home : ℕ) → began_at home a x.past ≡ true → (b : Name)
       → has_name (s ∷ t ∷ []) b ≡ true → began_at home b begun.past ≡ true
   arm_began a s t x begun begins home there b i =
-      ap (λ (w : World). began_at home b w.past) begins.after ∙ or_left _ _ (and_from _ _ i there)
+      ap (λ (w : OwnRun). began_at home b w.past) begins.after ∙ or_left _ _ (and_from _ _ i there)
 
   -- ---- top actions that begin later are above no action that began before
 
-  own_apart : (mine : Step → Bool) (x : World) (recent : List Event) (n : ℕ) (s : Name) → AreOwn sees mine x recent
+  own_apart : (mine : Step → Bool) (x : OwnRun) (recent : List Event) (n : ℕ) (s : Name) → AreOwn sees mine x recent
       → is_begun (n ∷ []) recent ≡ true → is_begun s x.past ≡ true → is_prefix (n ∷ []) s ≡ false
   own_apart mine x [] n s own h k = absurd (false≢true h)
   own_apart mine x (e ∷ recent) n s own h k = elim (begun_cases e recent (n ∷ []) h) [
@@ -108,7 +107,7 @@ module _ {sees : Sees} where
     | inr j ↦ own_apart mine x recent n s own.3 j k
   ]
 
-  pub top_apart : (mine : Step → Bool) (x y : World) (t s : Name) → Goes sees mine x y → Began t x y → is_begun s x.past ≡ true
+  pub top_apart : (mine : Step → Bool) (x y : OwnRun) (t s : Name) → Goes sees mine x y → Began t x y → is_begun s x.past ≡ true
       → is_prefix t s ≡ false
   top_apart mine x y t s a b k =
       subst (λ c. is_prefix c s ≡ false) (sym b.named)
@@ -118,7 +117,7 @@ module _ {sees : Sees} where
 
   -- ---- what an arm commits
 
-  module _ (s : Name) (x y : World) (was is : Option CallFault) (work : Works sees s x y was is) where
+  module _ (s : Name) (x y : OwnRun) (was is : Option CallFault) (work : Works sees s x y was is) where
     tops_commit_not : (b : Name) → is_begun b x.past ≡ true → (t : Name) → has_name work.tops t ≡ true → (step : Step)
         → belongs t step ≡ true → step_commits step b ≡ false
     tops_commit_not b k t i step own =
@@ -173,7 +172,7 @@ short_of_none : (fault : CallFault) {So : Type 0} → (None ≡ Some fault) ⊎ 
 short_of_none fault (inl h) = cc
 short_of_none fault (inr so) = so
 
-module _ {sees : Sees} (a : Name) (begun one other new : World) (j : AreJoined sees begun one other new) (arms : begins_arms begun.past ≡ true)
+module _ {sees : Sees} (a : Name) (begun one other new : OwnRun) (j : AreJoined sees begun one other new) (arms : begins_arms begun.past ≡ true)
     (left right : Option CallFault) (u : Works sees a begun one None left) (v : Works sees a begun other None right) where
   abbrev mine : Step → Bool
   mine = works_with (u.tops ++ v.tops) a
@@ -203,10 +202,11 @@ module _ {sees : Sees} (a : Name) (begun one other new : World) (j : AreJoined s
   other_told = told_there begun other new j.of_other j.of_both (other_part j.merge) mine crashes_not goes
 
   -- an arm's run, by steps of the action
-  arm_goes : (p : Step → Bool) (arm : World) (own : Goes sees any_step begun arm) → ((s : Step) → p s ≡ true → mine s ≡ true) → Goes sees p begun arm
+  arm_goes : (p : Step → Bool) (arm : OwnRun) (own : Goes sees any_step begun arm) → ((s : Step) → p s ≡ true → mine s ≡ true) → Goes sees p begun arm
       → Goes sees mine begun arm
   arm_goes p arm own f a = record {
     lists = own.lists;
+    since = own.since;
     later = own.later;
     past = own.past;
     own = own_wider sees p mine begun f own.later (own_at p begun arm own.later a own.past);
@@ -254,7 +254,7 @@ module _ {sees : Sees} (a : Name) (begun one other new : World) (j : AreJoined s
   }
 
   -- the arms themselves are settled, where each was told of
-  module _ (x : World) (s t : Name) (home : ℕ) (was : Option CallFault) (begins : BeginArms sees a s t x begun) (there : began_at home a x.past ≡ true)
+  module _ (x : OwnRun) (s t : Name) (home : ℕ) (was : Option CallFault) (begins : BeginArms sees a s t x begun) (there : began_at home a x.past ≡ true)
       (s_told : left ≡ None → EndedAndTold s home one) (t_told : right ≡ None → EndedAndTold t home other) where
     abbrev is : Option CallFault
     is = option_or (option_or was left) right

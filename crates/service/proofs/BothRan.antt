@@ -6,8 +6,7 @@ use Rattle.std.specs.Option.{option_or}
 use Rattle.std.specs.Result.{is_ok}
 use Rattle.action_names.specs.Names.{Name}
 use Rattle.run_model.specs.Actions.{is_committed}
-use Rattle.run_model.specs.Runs.{World}
-use Rattle.stepping.specs.Beside.{Sees}
+use Rattle.stepping.specs.Beside.{OwnRun, Sees}
 use Rattle.service.specs.Arms.{AreJoined}
 use Rattle.service.specs.Together.{BeginArms, EndsArm, RanTogether}
 use Rattle.service.specs.Transacting.{EndedAndTold, Works, began_at}
@@ -18,7 +17,7 @@ use Rattle.service.proofs.BothArms.{AreSiblings, begun_arms, siblings, works_of_
 use Rattle.service.proofs.EndedArms.{above_not, arm_committed, arm_ran, arm_told, arm_works, commits_no_other, commits_no_sibling, commits_not_beside, commits_not_self, one_begun, one_says, other_begun, other_says}
 
 module _ {J T E K U F : Type 0} {sees : Sees} {does : Does J T E} {also_does : Does K U F} {comes : CallFault → E → Type 0}
-    {also_comes : CallFault → F → Type 0} (a : Name) (x begun one other new : World) (s_at s_now t_at t_now : Place) (before after : J)
+    {also_comes : CallFault → F → Type 0} (a : Name) (x begun one other new : OwnRun) (s_at s_now t_at t_now : Place) (before after : J)
     (also_before also_after : K) (s_kept : Option (Result T E)) (t_kept : Option (Result U F))
     (p : EndsArm sees does comes s_at s_now begun one before after s_kept)
     (q : EndsArm sees also_does also_comes t_at t_now begun other also_before also_after t_kept) (j : ∥ AreJoined sees begun one other new ∥₁)

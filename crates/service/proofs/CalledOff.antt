@@ -5,9 +5,8 @@ use Rattle.action_names.specs.Names.{Name, has_name, same_name}
 use Rattle.run_model.specs.declared.answer.Answer.TheVariants as answers
 use Rattle.run_model.specs.declared.step.Step.{Step}
 use Rattle.run_model.specs.Actions.{step_commits}
-use Rattle.run_model.specs.Runs.{World}
 use Rattle.run_laws.proofs.Names.{same_name_true}
-use Rattle.stepping.specs.Beside.{Sees}
+use Rattle.stepping.specs.Beside.{OwnRun, Sees}
 use Rattle.service.specs.Together.{BeginArms, arms_of, settles_both}
 use Rattle.service.specs.Transacting.{CommitsNoChild, EndedAndTold, Goes, Settles, Works, began_at, settles, works_in, works_with}
 use Rattle.service.specs.declared.fault.CallFault.{CallFault}
@@ -17,7 +16,7 @@ use Rattle.service.proofs.Undone.{none_committed_then, settles_commits_none}
 
 module _ {sees : Sees} where
   -- what settles below an action is work in it
-  pub works_settled : (a : Name) (p : Step → Bool) (y w : World) (was is : Option CallFault) (So : Type 0)
+  pub works_settled : (a : Name) (p : Step → Bool) (y w : OwnRun) (was is : Option CallFault) (So : Type 0)
       → ((step : Step) → p step ≡ true → works_in a step ≡ true) → Settles sees p y w was is So → Works sees a y w was is
   works_settled a p y w was is So own h = record {
     tops = [];
@@ -29,14 +28,14 @@ module _ {sees : Sees} where
   }
 
   -- what ended, and whose guardian was told, stays so
-  pub ended_told_stays : (s t : Name) (g : ℕ) (y z : World) → Goes sees (settles t) y z → EndedAndTold s g y → EndedAndTold s g z
+  pub ended_told_stays : (s t : Name) (g : ℕ) (y z : OwnRun) → Goes sees (settles t) y z → EndedAndTold s g y → EndedAndTold s g z
   ended_told_stays s t g y z a h = (
     goes_ended (settles t) y z s a h.0,
     goes_told g s (settles t) y z (λ step k. end_crashes_not t g step (settles_ends t step k)) a h.1,
   )
 
   -- one after the other
-  pub both_settle : (s t : Name) (g : ℕ) (x y z : World) (was mid is : Option CallFault)
+  pub both_settle : (s t : Name) (g : ℕ) (x y z : OwnRun) (was mid is : Option CallFault)
       → Settles sees (settles s) x y was mid (EndedAndTold s g y) → Settles sees (settles t) y z mid is (EndedAndTold t g z)
       → Settles sees (settles_both s t) x z was is (EndedAndTold s g z × EndedAndTold t g z)
   both_settle s t g x y z was mid is u v =
@@ -45,7 +44,7 @@ module _ {sees : Sees} where
       (settles_wider (settles s) (settles_both s t) x y was mid (EndedAndTold s g y) (λ step h. or_left (settles s step) (settles t step) h) u)
       (settles_wider (settles t) (settles_both s t) y z mid is (EndedAndTold t g z) (λ step h. or_right (settles s step) (settles t step) h) v)
 
-  module _ (a s t : Name) (home : ℕ) (x y w : World) (was is : Option CallFault) (begins : BeginArms sees a s t x y)
+  module _ (a s t : Name) (home : ℕ) (x y w : OwnRun) (was is : Option CallFault) (begins : BeginArms sees a s t x y)
       (ends : Settles sees (settles_both s t) y w was is (EndedAndTold s home w × EndedAndTold t home w)) where
     settles_below : (step : Step) → settles_both s t step ≡ true → works_in a step ≡ true
     settles_below step h =

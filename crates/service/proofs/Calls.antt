@@ -10,9 +10,8 @@ use Rattle.run_model.specs.declared.step.Step.TheVariants as steps
 use Rattle.run_model.specs.declared.step.Step.{Step}
 use Rattle.run_model.specs.Actions.{next_number}
 use Rattle.run_model.specs.Openings.{opening_in}
-use Rattle.run_model.specs.Runs.{World, world_after}
 use Rattle.run_laws.proofs.Names.{eqb_self}
-use Rattle.stepping.specs.Beside.{IsAnsweredTo, Sees}
+use Rattle.stepping.specs.Beside.{IsAnsweredTo, OwnRun, Sees, own_after}
 use Rattle.stepping.specs.Stepping.{Leaves}
 use Rattle.service.specs.Calling.{BeganOne, IsCall}
 use Rattle.service.specs.Opening.{BeganAt}
@@ -29,19 +28,19 @@ use Rattle.service.proofs.Whole.{is_transacted, nested_begins_only, nested_works
 
 module _ {sees : Sees} where
   -- work after work
-  pub works_more : (a : Name) (x y z : World) (p q r : Option CallFault) → ∥ Works sees a x y p q ∥₁ → Works sees a y z q r → ∥ Works sees a x z p r ∥₁
+  pub works_more : (a : Name) (x y z : OwnRun) (p q r : Option CallFault) → ∥ Works sees a x y p q ∥₁ → Works sees a y z q r → ∥ Works sees a x z p r ∥₁
   works_more a x y z p q r u v = ∥∥₁_map u (λ w. works_then a x y z p q r w v)
 
-  pub works_on : (a : Name) (x y z : World) (p q r : Option CallFault) → ∥ Works sees a x y p q ∥₁ → ∥ Works sees a y z q r ∥₁ → ∥ Works sees a x z p r ∥₁
+  pub works_on : (a : Name) (x y z : OwnRun) (p q r : Option CallFault) → ∥ Works sees a x y p q ∥₁ → ∥ Works sees a y z q r ∥₁ → ∥ Works sees a x z p r ∥₁
   works_on a x y z p q r u v = ∥∥₁_elim v ∥∥₁_prop (λ w. works_more a x y z p q r u w)
 
   -- work that begins now
-  pub works_start : (a : Name) (start now : World) (was left : Option CallFault) → start ≡ now → was ≡ left → ∥ Works sees a start now was left ∥₁
+  pub works_start : (a : Name) (start now : OwnRun) (was left : Option CallFault) → start ≡ now → was ≡ left → ∥ Works sees a start now was left ∥₁
   works_start a start now was left e l =
       ∣ subst (λ b. Works sees a start now was b) l
       (works_quiet a start now was (goes_same (works_in a) start now (sym e)) (none_same start now (sym e))) ∣₁
 
-module _ {M : Type 0} (run : M → World) (sees : Sees) (leaves : Leaves M) where
+module _ {M : Type 0} (run : M → OwnRun) (sees : Sees) (leaves : Leaves M) where
   -- an action that began, as one in which work begins
   pub begun_place : (step : Step) (old new : M) (name : Name) (at : Place) → IsCall run sees leaves step BeganOne old new (Ok name) → at.action ≡ name
       → IsCall run sees leaves step BeganAt old new (Ok at)
@@ -60,10 +59,10 @@ module _ {M : Type 0} (run : M → World) (sees : Sees) (leaves : Leaves M) wher
       → Begins sees first at.action (run old) (run begun)
   begins_by first old begun at call = record {
     answer = subst (IsAnsweredTo sees (run old) first) call.gives.shows call.gives.made.answered;
-    after = call.gives.made.after ∙ ap (λ answer. world_after (run old) first answer) call.gives.shows;
+    after = call.gives.made.after ∙ ap (λ answer. own_after (run old) first answer) call.gives.shows;
   }
 
-  pub sub_worked : (a s : Name) (g : ℕ) (x y : M) (z w : World) (sub : Place) (was mid is : Option CallFault)
+  pub sub_worked : (a s : Name) (g : ℕ) (x y : M) (z w : OwnRun) (sub : Place) (was mid is : Option CallFault)
       → IsCall run sees leaves (steps.Call a g) BeganAt x y (Ok sub) → sub.left ≡ was → s ≡ sub.action
       → ∥ Works sees sub.action (run y) z sub.left mid ∥₁ → Settles sees (finishes s) z w mid is (EndedAndTold s g w) → ∥ Works sees a (run x) w was is ∥₁
   sub_worked a s g x y z w sub was mid is call kept same works ends =
@@ -74,7 +73,7 @@ module _ {M : Type 0} (run : M → World) (sees : Sees) (leaves : Leaves M) wher
       (subst (λ c. Settles sees (finishes c) z w mid is (EndedAndTold c g w)) same ends))
 
   -- and one that is aborted
-  pub sub_aborted : (a s : Name) (g : ℕ) (x y : M) (z w : World) (sub : Place) (was mid is : Option CallFault)
+  pub sub_aborted : (a s : Name) (g : ℕ) (x y : M) (z w : OwnRun) (sub : Place) (was mid is : Option CallFault)
       → IsCall run sees leaves (steps.Call a g) BeganAt x y (Ok sub) → sub.left ≡ was → s ≡ sub.action
       → ∥ Works sees sub.action (run y) z sub.left mid ∥₁ → Settles sees (settles s) z w mid is (EndedAndTold s g w) → ∥ Works sees a (run x) w was is ∥₁
   sub_aborted a s g x y z w sub was mid is call kept same works ends =
@@ -90,10 +89,10 @@ module _ {M : Type 0} (run : M → World) (sees : Sees) (leaves : Leaves M) wher
       begun_at first at.action (run old) (run begun) (begins_by first old begun at call).after home there
 
   -- the number of a top action that began
-  abbrev top_number : {own : World} {step : Step} {answer : Answer} → IsAnsweredTo sees own step answer → ℕ
+  abbrev top_number : {own : OwnRun} {step : Step} {answer : Answer} → IsAnsweredTo sees own step answer → ℕ
   top_number {own = own} given = next_number (opening_in own.lists) [] given.seen
 
-  module _ {T E : Type 0} (home : ℕ) (old begun : M) (z : World) (at : Place) (ended : Transacted T E) (first : at.reached.items ≡ home ∷ [])
+  module _ {T E : Type 0} (home : ℕ) (old begun : M) (z : OwnRun) (at : Place) (ended : Transacted T E) (first : at.reached.items ≡ home ∷ [])
       (runs : ∥ RunsTop sees at (run begun) z ended ∥₁) where
     reached : has_number at.reached.items home ≡ true
     reached = subst (λ xs. has_number xs home ≡ true) (sym first) (or_left _ _ (eqb_self home))
@@ -150,7 +149,7 @@ module _ {M : Type 0} (run : M → World) (sees : Sees) (leaves : Leaves M) wher
 
 module _ {sees : Sees} where
   -- work in a top action that has begun, and its end
-  pub top_run : {T E : Type 0} (at : Place) (x y z : World) (top : Name) (guardians : List ℕ) (mid left : Option CallFault) (decided : Bool)
+  pub top_run : {T E : Type 0} (at : Place) (x y z : OwnRun) (top : Name) (guardians : List ℕ) (mid left : Option CallFault) (decided : Bool)
       (outcome : Outcome T E) → top ≡ at.action → Includes at.reached.items guardians → has_committed outcome ≡ decided
       → (outcome ≡ Aborted Vote → is_voted_down top z.past ≡ true)
       → ((fault : CallFault) → outcome ≡ Aborted (ByStep fault) → CameToNothing sees (ends_top top) is_concluding y z fault)
@@ -170,7 +169,7 @@ module _ {sees : Sees} where
       })
 
   -- where an action began, it began also later
-  pub still_there : (home : ℕ) (a b : Name) (x y : World) (was is : Option CallFault) → began_at home a x.past ≡ true → ∥ Works sees b x y was is ∥₁
+  pub still_there : (home : ℕ) (a b : Name) (x y : OwnRun) (was is : Option CallFault) → began_at home a x.past ≡ true → ∥ Works sees b x y was is ∥₁
       → began_at home a y.past ≡ true
   still_there home a b x y was is there works =
       ∥∥₁_elim works (Bool-set (began_at home a y.past) true) (λ work.

@@ -13,12 +13,12 @@ use Rattle.run_model.specs.declared.step.Step.{Step}
 use Rattle.run_model.specs.declared.step.Step.TheVariants as steps
 use Rattle.run_model.specs.Actions.{is_committed, is_ended, names_begun, step_commits}
 use Rattle.run_model.specs.Openings.{opening_in}
-use Rattle.run_model.specs.Runs.{World, is_accepted}
+use Rattle.run_model.specs.Runs.{is_accepted}
 use Rattle.run_model.specs.Telling.{told_since_crash}
 use Rattle.run_model.specs.Votes.{has_voted, step_votes}
 use Rattle.run_laws.proofs.Growth.{any_stays}
 use Rattle.run_laws.proofs.Names.{clash, eqb_self, same_name_self}
-use Rattle.stepping.specs.Beside.{Sees}
+use Rattle.stepping.specs.Beside.{OwnRun, Sees}
 use Rattle.stepping.specs.Stepping.{Leaves}
 use Rattle.service.specs.Calling.{IsCall, IsDone, IsReply, IsVote, Told}
 use Rattle.service.specs.Ending.{AreCutShort, ArePolled, HasHappened, HaveHappened, prepares}
@@ -65,21 +65,21 @@ all_at p (x ∷ xs) n h k = elim (or_cases (x == n) (has_number xs n) k) [
   | inr i ↦ all_at p xs n (and_parts _ _ h).1 i
 ]
 
-pub told_at : (t : Name) (gs : List ℕ) (now : World) (g : ℕ) → AllTold t gs now → has_number gs g ≡ true → told_since_crash g t now.past ≡ true
+pub told_at : (t : Name) (gs : List ℕ) (now : OwnRun) (g : ℕ) → AllTold t gs now → has_number gs g ≡ true → told_since_crash g t now.past ≡ true
 told_at t gs now g h i = all_at (λ x. told_since_crash x t now.past) gs g h i
 
 -- ---- conclusions, one after another
 
 module _ {sees : Sees} where
-  pub concluded_same : (t : Name) (gs : List ℕ) (old new : World) → new ≡ old → Concludes sees t gs old new false
+  pub concluded_same : (t : Name) (gs : List ℕ) (old new : OwnRun) → new ≡ old → Concludes sees t gs old new false
   concluded_same t gs old new e = record {
     goes = goes_same (ends_top t) old new e;
     none = none_same old new e;
-    says = ap (λ (w : World). is_committed t w.past) e;
-    voted = λ g out. ap (λ (w : World). has_voted g t w.past) e;
+    says = ap (λ (w : OwnRun). is_committed t w.past) e;
+    voted = λ g out. ap (λ (w : OwnRun). has_voted g t w.past) e;
   }
 
-  pub concluded_then : (t : Name) (gs : List ℕ) (x y z : World) (c : Bool) → Concludes sees t gs x y false → Concludes sees t gs y z c → Concludes sees t gs x z c
+  pub concluded_then : (t : Name) (gs : List ℕ) (x y z : OwnRun) (c : Bool) → Concludes sees t gs x y false → Concludes sees t gs y z c → Concludes sees t gs x z c
   concluded_then t gs x y z c u v = record {
     goes = goes_then (ends_top t) x y z u.goes v.goes;
     none = none_then x y z u.none v.none;
@@ -88,7 +88,7 @@ module _ {sees : Sees} where
   }
 
   -- what follows a conclusion and commits nothing
-  pub concluded_after : (t : Name) (gs : List ℕ) (x y z : World) (c : Bool) → Concludes sees t gs x y c → Concludes sees t gs y z false → Concludes sees t gs x z c
+  pub concluded_after : (t : Name) (gs : List ℕ) (x y z : OwnRun) (c : Bool) → Concludes sees t gs x y c → Concludes sees t gs y z false → Concludes sees t gs x z c
   concluded_after t gs x y z c u v = record {
     goes = goes_then (ends_top t) x y z u.goes v.goes;
     none = none_then x y z u.none v.none;
@@ -107,7 +107,7 @@ settles_votes_not t g (steps.Prepare h b) own = absurd (false≢true own)
 settles_votes_not t g _ own = refl
 
 module _ {sees : Sees} where
-  settled_concludes : (t : Name) (gs : List ℕ) (x y : World) → Goes sees (settles t) x y → NoneBegan x y → Concludes sees t gs x y false
+  settled_concludes : (t : Name) (gs : List ℕ) (x y : OwnRun) → Goes sees (settles t) x y → NoneBegan x y → Concludes sees t gs x y false
   settled_concludes t gs x y a n = record {
     goes = goes_wider (settles t) (ends_top t) x y (settles_ends t) a;
     none = n;
@@ -122,7 +122,7 @@ nothing_left : (was : Option CallFault) {T : Type 0} (r : Result T CallFault) �
 nothing_left None r h = refl
 nothing_left (Some fault) r h = h
 
-module _ {M : Type 0} (run : M → World) (sees : Sees) (leaves : Leaves M) where
+module _ {M : Type 0} (run : M → OwnRun) (sees : Sees) (leaves : Leaves M) where
   -- ---- calls
 
   pub call_goes : {T : Type 0} (p : Step → Bool) (step : Step) (Shows : T → Answer → Type 0) (old new : M) (r : Result T CallFault) → p step ≡ true
@@ -143,7 +143,7 @@ module _ {M : Type 0} (run : M → World) (sees : Sees) (leaves : Leaves M) wher
       → list_any (λ (e : Event). p e.step) (run new).past ≡ list_any (λ (e : Event). p e.step) (run old).past
   call_keeps p step Shows old new (Ok x) none call =
       step_kept p step call.gives.answer (run old) (run new) none call.gives.made.after
-  call_keeps p step Shows old new (Err e) none call = ap (λ (w : World). list_any (λ (e : Event). p e.step) w.past) call.same
+  call_keeps p step Shows old new (Err e) none call = ap (λ (w : OwnRun). list_any (λ (e : Event). p e.step) w.past) call.same
 
   -- a call in an action that begins nothing
   pub call_works : {T : Type 0} (a : Name) (step : Step) (Shows : T → Answer → Type 0) (old new : M) (r : Result T CallFault)
@@ -208,7 +208,7 @@ module _ {M : Type 0} (run : M → World) (sees : Sees) (leaves : Leaves M) wher
   call_happens step old new call =
       let answer = call.gives.answer in (
         answer,
-        ap (λ (w : World). w.past) call.gives.made.after
+        ap (λ (w : OwnRun). w.past) call.gives.made.after
             ∙ ap (λ b. if b then record { step = step; answer = answer } ∷ (run old).past else (run old).past) (ap is_accepted call.gives.shows),
       )
 
@@ -256,7 +256,7 @@ module _ {M : Type 0} (run : M → World) (sees : Sees) (leaves : Leaves M) wher
   tell_tells a g count old new call =
       let answer = call.gives.answer in (
         answer,
-        ap (λ (w : World). w.past) call.gives.made.after
+        ap (λ (w : OwnRun). w.past) call.gives.made.after
             ∙ ap (λ b. if b then record { step = steps.Tell g a; answer = answer } ∷ (run old).past else (run old).past) (ap is_accepted call.gives.shows),
       )
 
@@ -348,7 +348,7 @@ module _ {M : Type 0} (run : M → World) (sees : Sees) (leaves : Leaves M) wher
   happened_past : (step : Step) (old new : M) (h : HasHappened run sees leaves step old new)
       → (run new).past ≡ record { step = step; answer = h.answer } ∷ (run old).past
   happened_past step old new h =
-      ap (λ (w : World). w.past) h.made.after
+      ap (λ (w : OwnRun). w.past) h.made.after
       ∙ ap (λ b. if b then record { step = step; answer = h.answer } ∷ (run old).past else (run old).past) h.accepted
 
   -- a poll that did not give all votes
@@ -357,7 +357,7 @@ module _ {M : Type 0} (run : M → World) (sees : Sees) (leaves : Leaves M) wher
   polled_down t gs said old new poll e =
       let (front, g, parts, vote) = poll.no e in
       ap (λ m. is_voted_down t (run m).past) vote.rest
-      ∙ ap (λ (w : World). is_voted_down t w.past) vote.no.after
+      ∙ ap (λ (w : OwnRun). is_voted_down t w.past) vote.no.after
       ∙ or_left _ _ (same_name_self t)
 
   vote_votes : (t : Name) (g : ℕ) (old new : M) → HasHappened run sees leaves (steps.Prepare g t) old new → has_voted g t (run new).past ≡ true
@@ -478,7 +478,7 @@ module _ {M : Type 0} (run : M → World) (sees : Sees) (leaves : Leaves M) wher
       all_more p (y ∷ gs) x h k = let (this, more) = and_parts _ _ h in and_from _ _ this (all_more p gs x more k)
 
 module _ {sees : Sees} where
-  pub top_ends : (t : Name) (gs : List ℕ) (w x y z : World) (was mid is : Option CallFault) (committed : Bool) → Concludes sees t gs w x committed
+  pub top_ends : (t : Name) (gs : List ℕ) (w x y z : OwnRun) (was mid is : Option CallFault) (committed : Bool) → Concludes sees t gs w x committed
       → Settles sees (settles t) x y was mid (committed ≡ false → is_ended t y.past ≡ true) → Settles sees (settles t) y z mid is (AllTold t gs z)
       → EndsTop sees t gs w z was is committed
   top_ends t gs w x y z was mid is committed first next last = record {
@@ -507,7 +507,7 @@ module _ {sees : Sees} where
       by false e ended = ended e
 
   -- the end of a top action, by calls whose lists of guardians are the same
-  pub top_ended : (t : Name) (gs polled told : List ℕ) (w x y z : World) (was mid is : Option CallFault) (committed said : Bool) → polled ≡ gs
+  pub top_ended : (t : Name) (gs polled told : List ℕ) (w x y z : OwnRun) (was mid is : Option CallFault) (committed said : Bool) → polled ≡ gs
       → told ≡ gs → said ≡ committed → Concludes sees t polled w x committed
       → Settles sees (settles t) x y was mid (said ≡ false → is_ended t y.past ≡ true) → Settles sees (settles t) y z mid is (AllTold t told z)
       → EndsTop sees t gs w z was is committed
@@ -517,7 +517,7 @@ module _ {sees : Sees} where
       (subst (λ xs. Settles sees (settles t) y z mid is (AllTold t xs z)) q last)
 
   -- what comes of the vote is kept as the top action is ended
-  module _ (t : Name) (x y z : World) (was mid is : Option CallFault) (Aborts Tells : Type 0) (first : Settles sees (settles t) x y was mid Aborts)
+  module _ (t : Name) (x y z : OwnRun) (was mid is : Option CallFault) (Aborts Tells : Type 0) (first : Settles sees (settles t) x y was mid Aborts)
       (last : Settles sees (settles t) y z mid is Tells) where
     ended_goes : Goes sees (settles t) x z
     ended_goes = goes_then (settles t) x y z first.goes last.goes
@@ -525,7 +525,7 @@ module _ {sees : Sees} where
     pub stays_down : is_voted_down t x.past ≡ true → is_voted_down t z.past ≡ true
     stays_down h = any_stays (λ (e : Event). votes_no t e.step e.answer) (goes_grows (settles t) x z ended_goes) h
 
-    pub stays_stopped : (w : World) (r : Result Bool CallFault) → IfErr r (CameToNothing sees (ends_top t) is_concluding w x)
+    pub stays_stopped : (w : OwnRun) (r : Result Bool CallFault) → IfErr r (CameToNothing sees (ends_top t) is_concluding w x)
         → IfErr r (CameToNothing sees (ends_top t) is_concluding w z)
     stays_stopped w (Ok c) h = tt
     stays_stopped w (Err fault) h = short_more (ends_top t) w x z fault h (goes_wider (settles t) (ends_top t) x z (settles_ends t) ended_goes)

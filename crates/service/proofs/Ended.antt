@@ -15,10 +15,10 @@ use Rattle.run_model.specs.Actions.{is_aborted, is_committed, is_ended, step_com
 use Rattle.run_model.specs.Answers.{answer_of, outcome, refused_or}
 use Rattle.run_model.specs.Openings.{Opening, opening_in}
 use Rattle.run_model.specs.Refusals.{checks, first_refusal}
-use Rattle.run_model.specs.Runs.{World, history_after, is_accepted}
+use Rattle.run_model.specs.Runs.{history_after, is_accepted}
 use Rattle.run_laws.proofs.Accepted.{none_applies}
 use Rattle.run_laws.proofs.Names.{clash, same_name_self}
-use Rattle.stepping.specs.Beside.{IsAnsweredTo, IsMadeWith, Sees}
+use Rattle.stepping.specs.Beside.{IsAnsweredTo, IsMadeWith, OwnRun, Sees}
 use Rattle.stepping.specs.Stepping.{Leaves}
 use Rattle.service.specs.Calling.{IsCall, IsDone, IsVote, Told}
 use Rattle.service.specs.Ending.{AreCutShort, ArePolled, HasHappened, HaveHappened, IsEnded, IsEndingCut, ending, prepares, tells, verdict}
@@ -51,7 +51,7 @@ abort_unended opening top past h =
     (none_if_accepted (first_refusal (checks opening (steps.Abort top) past)) (outcome opening (steps.Abort top) past) h) why.Ended
 
 -- what a caller aborts it has not ended before
-abort_unended_own : {sees : Sees} (own : World) (top : Name) (answer : Answer) → IsAnsweredTo sees own (steps.Abort top) answer
+abort_unended_own : {sees : Sees} (own : OwnRun) (top : Name) (answer : Answer) → IsAnsweredTo sees own (steps.Abort top) answer
     → IsTrue (is_accepted answer) → is_ended top own.past ≡ false
 abort_unended_own own top answer given accepted =
     let unended = abort_unended (opening_in own.lists) top given.seen (subst (λ a. IsTrue (is_accepted a)) given.answered accepted) in
@@ -66,7 +66,7 @@ neither : (s t : Bool) → (s || t) ≡ false → s ≡ false
 neither true t h = h
 neither false t h = refl
 
-module _ {M : Type 0} (run : M → World) (sees : Sees) (leaves : Leaves M) where
+module _ {M : Type 0} (run : M → OwnRun) (sees : Sees) (leaves : Leaves M) where
   -- ---- calls as steps
 
   pub call_happened : {T : Type 0} (step : Step) (Shows : T → Answer → Type 0) (old new : M) (x : T) → IsCall run sees leaves step Shows old new (Ok x)
@@ -124,7 +124,7 @@ module _ {M : Type 0} (run : M → World) (sees : Sees) (leaves : Leaves M) wher
 
   pub keeps_committed : (a : Name) (step : Step) (answer : Answer) (old new : M) → step_commits step a ≡ false
       → IsMadeWith run sees leaves step answer old new → is_committed a (run new).past ≡ is_committed a (run old).past
-  keeps_committed a step given old new none made = ap (λ (w : World). is_committed a w.past) made.after ∙ of given
+  keeps_committed a step given old new none made = ap (λ (w : OwnRun). is_committed a w.past) made.after ∙ of given
     where
       by : (answer : Answer) (t : Bool)
           → is_committed a (if t then record { step = step; answer = answer } ∷ (run old).past else (run old).past) ≡ is_committed a (run old).past
@@ -145,7 +145,7 @@ module _ {M : Type 0} (run : M → World) (sees : Sees) (leaves : Leaves M) wher
   pub decided : (top : Name) (old new : M) → HasHappened run sees leaves (steps.Decide top) old new → is_committed top (run new).past ≡ true
   decided top old new h =
       let e : Event = record { step = steps.Decide top; answer = h.answer } in
-      ap (λ (w : World). is_committed top w.past) h.made.after
+      ap (λ (w : OwnRun). is_committed top w.past) h.made.after
       ∙ ap (λ t. is_committed top (if t then e ∷ (run old).past else (run old).past)) h.accepted
       ∙ ap (λ t. t || is_committed top (run old).past) (same_name_self top)
 

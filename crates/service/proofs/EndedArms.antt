@@ -10,10 +10,9 @@ use Rattle.run_model.specs.declared.answer.Answer.TheVariants as answers
 use Rattle.run_model.specs.declared.step.Step.{Step}
 use Rattle.run_model.specs.declared.step.Step.TheVariants as steps
 use Rattle.run_model.specs.Actions.{is_begun, is_committed, step_commits}
-use Rattle.run_model.specs.Runs.{World}
 use Rattle.run_laws.proofs.Growth.{Follows, committed_stays, here}
 use Rattle.run_laws.proofs.Names.{clash, same_name_self}
-use Rattle.stepping.specs.Beside.{Sees}
+use Rattle.stepping.specs.Beside.{OwnRun, Sees}
 use Rattle.service.specs.Arms.{AreJoined, any_step}
 use Rattle.service.specs.Calling.{ComesToNothing}
 use Rattle.service.specs.Together.{BeginArms, CommitsNoOther, EndsArm, RunsInArm, arms_of}
@@ -30,7 +29,7 @@ use Rattle.service.proofs.Undone.{work_commits_none}
 
 -- ---- one arm
 
-module _ {J T E : Type 0} {sees : Sees} {does : Does J T E} {comes : CallFault → E → Type 0} (at now : Place) (begun run : World)
+module _ {J T E : Type 0} {sees : Sees} {does : Does J T E} {comes : CallFault → E → Type 0} (at now : Place) (begun run : OwnRun)
     (before after : J) (kept_result : Option (Result T E)) (e : EndsArm sees does comes at now begun run before after kept_result) where
   abbrev s : Name
   s = at.action
@@ -120,13 +119,13 @@ same_if_both true c f g = sym (f refl)
 same_if_both false true f g = g refl
 same_if_both false false f g = refl
 
-module _ {sees : Sees} (a s t : Name) (x begun : World) (begins : BeginArms sees a s t x begun) where
+module _ {sees : Sees} (a s t : Name) (x begun : OwnRun) (begins : BeginArms sees a s t x begun) where
   abbrev kin : AreSiblings a s t
   kin = siblings a s t x begun begins
 
   begun_both : (b : Name) → has_name (s ∷ t ∷ []) b ≡ true → is_begun b begun.past ≡ true
   begun_both b i =
-      ap (λ (w : World). is_begun b w.past) begins.after ∙ begins_more (record { step = arms_of a; answer = answers.Began (s ∷ t ∷ []) }) x.past b i
+      ap (λ (w : OwnRun). is_begun b w.past) begins.after ∙ begins_more (record { step = arms_of a; answer = answers.Began (s ∷ t ∷ []) }) x.past b i
 
   pub one_begun : is_begun s begun.past ≡ true
   one_begun = begun_both s (or_left _ _ (same_name_self s))
@@ -144,7 +143,7 @@ module _ {sees : Sees} (a s t : Name) (x begun : World) (begins : BeginArms sees
   pub above_not : (b : Name) → is_below a b ≡ true → is_prefix b a ≡ false
   above_not b below = not-true (is_prefix b a) (and_parts (is_prefix a b) _ below).1
 
-  module _ (one other new : World) (j : AreJoined sees begun one other new) where
+  module _ (one other new : OwnRun) (j : AreJoined sees begun one other new) where
     -- what neither arm committed was not committed
     uncommitted_by : (b : Name) → is_committed b one.past ≡ false → is_committed b other.past ≡ false → is_committed b new.past ≡ false
     uncommitted_by b p q =

@@ -15,13 +15,13 @@ use Rattle.run_model.specs.Actions.{begun, is_aborted, is_begun, is_committed, i
 use Rattle.run_model.specs.Answers.{answer_of, outcome, refused_or}
 use Rattle.run_model.specs.Openings.{Opening, opening_in}
 use Rattle.run_model.specs.Refusals.{checks, first_refusal}
-use Rattle.run_model.specs.Runs.{World, history_after, is_accepted, world_after}
+use Rattle.run_model.specs.Runs.{history_after, is_accepted}
 use Rattle.run_model.specs.Telling.{told_since_crash}
 use Rattle.run_model.specs.Votes.{has_voted, step_votes}
 use Rattle.run_laws.proofs.Growth.{Follows, aborted_stays, begun_stays, committed_stays, followed, here, later}
 use Rattle.run_laws.proofs.Names.{clash, eqb_self, has_name_append, same_name_self, same_name_true}
 use Rattle.run_laws.proofs.Begun.{begun_cases, begun_more}
-use Rattle.stepping.specs.Beside.{IsAnsweredTo, Sees}
+use Rattle.stepping.specs.Beside.{IsAnsweredTo, OwnRun, Sees, own_after}
 use Rattle.service.specs.declared.fault.CallFault.{CallFault}
 use Rattle.service.specs.Transacting.{AllBegan, AllSettled, AllVotersTold, AreOwn, Began, CameToNothing, EndedAndTold, FallsShort, Goes, IsSettled, NoneBegan, Settles, Works, by_itself, in_arm, began_at, begins_at, belongs, belongs_to, ends_top, finishes, is_below, settles, works_in, works_with}
 use Rattle.service.proofs.Parts.{begun_is_new}
@@ -221,24 +221,24 @@ after_kept p step answer past none = by (is_accepted answer)
     by true = ap (λ b. b || list_any (λ (e : Event). p e.step) past) none
     by false = refl
 
-pub step_kept : (p : Step → Bool) (step : Step) (answer : Answer) (old new : World) → p step ≡ false → new ≡ world_after old step answer
+pub step_kept : (p : Step → Bool) (step : Step) (answer : Answer) (old new : OwnRun) → p step ≡ false → new ≡ own_after old step answer
     → list_any (λ (e : Event). p e.step) new.past ≡ list_any (λ (e : Event). p e.step) old.past
 step_kept p step answer old new none after =
-    ap (λ (w : World). list_any (λ (e : Event). p e.step) w.past) after ∙ after_kept p step answer old.past none
+    ap (λ (w : OwnRun). list_any (λ (e : Event). p e.step) w.past) after ∙ after_kept p step answer old.past none
 
 -- ---- what begins
 
-pub none_began : (step : Step) (answer : Answer) (old new : World) → names_begun answer ≡ [] → new ≡ world_after old step answer → NoneBegan old new
-none_began step answer old new none after b = ap (λ (w : World). is_begun b w.past) after ∙ by (is_accepted answer)
+pub none_began : (step : Step) (answer : Answer) (old new : OwnRun) → names_begun answer ≡ [] → new ≡ own_after old step answer → NoneBegan old new
+none_began step answer old new none after b = ap (λ (w : OwnRun). is_begun b w.past) after ∙ by (is_accepted answer)
   where
     by : (t : Bool) → is_begun b (if t then record { step = step; answer = answer } ∷ old.past else old.past) ≡ is_begun b old.past
     by true = ap (λ names. has_name (names ++ begun old.past) b) none
     by false = refl
 
-pub none_same : (old new : World) → new ≡ old → NoneBegan old new
-none_same old new e b = ap (λ (w : World). is_begun b w.past) e
+pub none_same : (old new : OwnRun) → new ≡ old → NoneBegan old new
+none_same old new e b = ap (λ (w : OwnRun). is_begun b w.past) e
 
-pub none_then : (x y z : World) → NoneBegan x y → NoneBegan y z → NoneBegan x z
+pub none_then : (x y z : OwnRun) → NoneBegan x y → NoneBegan y z → NoneBegan x z
 none_then x y z n m b = m b ∙ n b
 
 -- ---- what is settled
@@ -248,7 +248,7 @@ began_stays g b here h = h
 began_stays g b (later e f) h = or_right _ _ (began_stays g b f h)
 
 -- what ended, and whose guardian was told, is settled where it began
-pub settled_where : (s : Name) (g : ℕ) (y w : World) → began_at g s y.past ≡ true → Follows y.past w.past → EndedAndTold s g w → IsSettled s w
+pub settled_where : (s : Name) (g : ℕ) (y w : OwnRun) → began_at g s y.past ≡ true → Follows y.past w.past → EndedAndTold s g w → IsSettled s w
 settled_where s g y w there grows h = record {
   ended = h.0;
   home = g;
@@ -256,22 +256,22 @@ settled_where s g y w there grows h = record {
   told = h.1;
 }
 
-pub all_settled_if_none : (old new : World) → NoneBegan old new → AllSettled old new
+pub all_settled_if_none : (old new : OwnRun) → NoneBegan old new → AllSettled old new
 all_settled_if_none old new n b h k = absurd (clash (sym (n b) ∙ h) k)
 
 -- an action that a step began, and no other
-module _ (step : Step) (s : Name) (x y : World)
-    (there : y ≡ record { lists = x.lists; past = record { step = step; answer = answers.Began (s ∷ []) } ∷ x.past }) where
+module _ (step : Step) (s : Name) (x y : OwnRun)
+    (there : y ≡ record x { past = record { step = step; answer = answers.Began (s ∷ []) } ∷ x.past }) where
   -- at this guardian
   pub begun_at : (g : ℕ) → begins_at step g (λ c. began_at g c x.past) ≡ true → began_at g s y.past ≡ true
   begun_at g at =
-      ap (λ (w : World). began_at g s w.past) there
+      ap (λ (w : OwnRun). began_at g s w.past) there
       ∙ or_left _ _ (and_from _ _ (or_left _ _ (same_name_self s)) at)
 
   pub begun_only : (b : Name) → is_begun b y.past ≡ true → is_begun b x.past ≡ false → s ≡ b
   begun_only b new old =
       by
-      (begun_cases (record { step = step; answer = answers.Began (s ∷ []) }) x.past b (sym (ap (λ (w : World). is_begun b w.past) there) ∙ new))
+      (begun_cases (record { step = step; answer = answers.Began (s ∷ []) }) x.past b (sym (ap (λ (w : OwnRun). is_begun b w.past) there) ∙ new))
     where
       by : (has_name (s ∷ []) b ≡ true) ⊎ (is_begun b x.past ≡ true) → s ≡ b
       by (inl h) = one (or_cases _ _ h)
@@ -294,7 +294,7 @@ begun_front t (e ∷ recent) before h = elim (begun_cases e recent t h) [
   | inr k ↦ begun_more e (recent ++ before) t (begun_front t recent before k)
 ]
 
-pub began_within : (t : Name) (x y z w : World) → Follows x.past y.past → Began t y z → Follows z.past w.past → Began t x w
+pub began_within : (t : Name) (x y z w : OwnRun) → Follows x.past y.past → Began t y z → Follows z.past w.past → Began t x w
 began_within t x y z w a b c =
     let (before, p) = recent_of a in
     let (after, q) = recent_of c in
@@ -309,13 +309,13 @@ began_within t x y z w a b c =
       begun = begun_stays t (followed after (b.recent ++ before)) (begun_front t b.recent before b.begun);
     }
 
-pub all_within : (tops : List Name) (x y z w : World) → Follows x.past y.past → AllBegan tops y z → Follows z.past w.past → AllBegan tops x w
+pub all_within : (tops : List Name) (x y z w : OwnRun) → Follows x.past y.past → AllBegan tops y z → Follows z.past w.past → AllBegan tops x w
 all_within tops x y z w a all c t i = began_within t x y z w a (all t i) c
 
-pub none_of : (old new : World) → AllBegan [] old new
+pub none_of : (old new : OwnRun) → AllBegan [] old new
 none_of old new t i = absurd (false≢true i)
 
-pub both_began : (us vs : List Name) (old new : World) → AllBegan us old new → AllBegan vs old new → AllBegan (us ++ vs) old new
+pub both_began : (us vs : List Name) (old new : OwnRun) → AllBegan us old new → AllBegan vs old new → AllBegan (us ++ vs) old new
 both_began us vs old new a b t i = by (or_cases (has_name us t) (has_name vs t) (sym (has_name_append us vs t) ∙ i))
   where
     by : (has_name us t ≡ true) ⊎ (has_name vs t ≡ true) → Began t old new
@@ -324,29 +324,31 @@ both_began us vs old new a b t i = by (or_cases (has_name us t) (has_name vs t) 
 
 -- ---- runs that go on
 
--- the world once these events have happened
-same_world : (x y : World) (recent : List Event) → y.lists ≡ x.lists → y.past ≡ recent ++ x.past
-    → y ≡ record { lists = x.lists; past = recent ++ x.past }
-same_world x y recent l p = ap₂ (λ lists past. record { lists = lists; past = past }) l p
+-- the run once these events have happened
+same_run : (x y : OwnRun) (recent : List Event) → y.lists ≡ x.lists → y.since ≡ x.since → y.past ≡ recent ++ x.past
+    → y ≡ record x { past = recent ++ x.past }
+same_run x y recent l s p =
+    ap₂ (λ lists past. record { lists = lists; past = past; since = y.since }) l p
+    ∙ ap (λ since. record { lists = x.lists; past = recent ++ x.past; since = since }) s
 
 module _ (sees : Sees) where
   -- events of two parts
-  own_append : (p : Step → Bool) (x : World) (first more : List Event) → AreOwn sees p x first
-      → AreOwn sees p (record { lists = x.lists; past = first ++ x.past }) more → AreOwn sees p x (more ++ first)
+  own_append : (p : Step → Bool) (x : OwnRun) (first more : List Event) → AreOwn sees p x first
+      → AreOwn sees p (record x { past = first ++ x.past }) more → AreOwn sees p x (more ++ first)
   own_append p x first [] a b = a
   own_append p x first (e ∷ more) a b = (
     b.0,
     b.1,
-    subst (λ past. IsAnsweredTo sees (record { lists = x.lists; past = past }) e.step e.answer) (sym (append_assoc more first x.past)) b.2,
+    subst (λ past. IsAnsweredTo sees (record x { past = past }) e.step e.answer) (sym (append_assoc more first x.past)) b.2,
     own_append p x first more a b.3,
   )
 
-  pub own_wider : (p q : Step → Bool) (x : World) → ((s : Step) → p s ≡ true → q s ≡ true) → (recent : List Event) → AreOwn sees p x recent
+  pub own_wider : (p q : Step → Bool) (x : OwnRun) → ((s : Step) → p s ≡ true → q s ≡ true) → (recent : List Event) → AreOwn sees p x recent
       → AreOwn sees q x recent
   own_wider p q x f [] own = tt
   own_wider p q x f (e ∷ recent) own = (f e.step own.0, own.1, own.2, own_wider p q x f recent own.3)
 
-  own_kept : (p mine : Step → Bool) → ((step : Step) → mine step ≡ true → p step ≡ false) → (x : World) (recent : List Event)
+  own_kept : (p mine : Step → Bool) → ((step : Step) → mine step ≡ true → p step ≡ false) → (x : OwnRun) (recent : List Event)
       → AreOwn sees mine x recent
       → list_any (λ (e : Event). p e.step) (recent ++ x.past) ≡ list_any (λ (e : Event). p e.step) x.past
   own_kept p mine f x [] own = refl
@@ -354,73 +356,74 @@ module _ (sees : Sees) where
       ap (λ b. b || list_any (λ (e : Event). p e.step) (recent ++ x.past)) (f e.step own.0) ∙ own_kept p mine f x recent own.3
 
   -- what was told stays so if the guardian does not crash
-  own_told : (g : ℕ) (b : Name) (mine : Step → Bool) → ((step : Step) → mine step ≡ true → step_crashes step g ≡ false) → (x : World)
+  own_told : (g : ℕ) (b : Name) (mine : Step → Bool) → ((step : Step) → mine step ≡ true → step_crashes step g ≡ false) → (x : OwnRun)
       (recent : List Event) → AreOwn sees mine x recent → told_since_crash g b x.past ≡ true → told_since_crash g b (recent ++ x.past) ≡ true
   own_told g b mine f x [] own h = h
   own_told g b mine f x (e ∷ recent) own h =
       and_from _ _ (not_from_false _ (f e.step own.0)) (or_left _ _ (own_told g b mine f x recent own.3 h))
 
   -- what began in between was not begun before
-  own_new : (mine : Step → Bool) (x : World) (recent : List Event) (t : Name) → AreOwn sees mine x recent → is_begun t recent ≡ true
+  own_new : (mine : Step → Bool) (x : OwnRun) (recent : List Event) (t : Name) → AreOwn sees mine x recent → is_begun t recent ≡ true
       → is_begun t x.past ≡ false
   own_new mine x [] t own h = absurd (false≢true h)
   own_new mine x (e ∷ recent) t own h = elim (begun_cases e recent t h) [
     | inl k ↦
         false_from_ne_true _ (λ b.
         clash (begun_stays t (followed recent x.past) b)
-        (begun_is_new (record { lists = x.lists; past = recent ++ x.past }) e.step e.answer own.2 own.1 t k))
+        (begun_is_new (record x { past = recent ++ x.past }) e.step e.answer own.2 own.1 t k))
     | inr k ↦ own_new mine x recent t own.3 k
   ]
 
 module _ {sees : Sees} where
-  pub goes_none : (p : Step → Bool) (w : World) → Goes sees p w w
-  goes_none p w = record { lists = refl; later = []; past = refl; own = tt }
+  pub goes_none : (p : Step → Bool) (w : OwnRun) → Goes sees p w w
+  goes_none p w = record { lists = refl; since = refl; later = []; past = refl; own = tt }
 
-  pub goes_same : (p : Step → Bool) (old new : World) → new ≡ old → Goes sees p old new
+  pub goes_same : (p : Step → Bool) (old new : OwnRun) → new ≡ old → Goes sees p old new
   goes_same p old new e = subst (λ w. Goes sees p old w) (sym e) (goes_none p old)
 
-  pub goes_one : (p : Step → Bool) (step : Step) (answer : Answer) (old new : World) → p step ≡ true → IsAnsweredTo sees old step answer
-      → new ≡ world_after old step answer → Goes sees p old new
+  pub goes_one : (p : Step → Bool) (step : Step) (answer : Answer) (old new : OwnRun) → p step ≡ true → IsAnsweredTo sees old step answer
+      → new ≡ own_after old step answer → Goes sees p old new
   goes_one p step answer old new is given after = subst (λ w. Goes sees p old w) (sym after) (by (is_accepted answer) refl)
     where
       by : (t : Bool) → is_accepted answer ≡ t
-          → Goes sees p old (record { lists = old.lists; past = if t then record { step = step; answer = answer } ∷ old.past else old.past })
-      by true e = record { lists = refl; later = record { step = step; answer = answer } ∷ []; past = refl; own = (is, e, given, tt) }
+          → Goes sees p old (record old { past = if t then record { step = step; answer = answer } ∷ old.past else old.past })
+      by true e = record { lists = refl; since = refl; later = record { step = step; answer = answer } ∷ []; past = refl; own = (is, e, given, tt) }
       by false e = goes_none p old
 
-  pub goes_then : (p : Step → Bool) (x y z : World) → Goes sees p x y → Goes sees p y z → Goes sees p x z
+  pub goes_then : (p : Step → Bool) (x y z : OwnRun) → Goes sees p x y → Goes sees p y z → Goes sees p x z
   goes_then p x y z a b = record {
     lists = b.lists ∙ a.lists;
+    since = b.since ∙ a.since;
     later = b.later ++ a.later;
     past = b.past ∙ ap (λ past. b.later ++ past) a.past ∙ sym (append_assoc b.later a.later x.past);
     own =
         own_append sees p x a.later b.later a.own
-        (subst (λ w. AreOwn sees p w b.later) (same_world x y a.later a.lists a.past) b.own);
+        (subst (λ w. AreOwn sees p w b.later) (same_run x y a.later a.lists a.since a.past) b.own);
   }
 
-  pub goes_wider : (p q : Step → Bool) (x y : World) → ((s : Step) → p s ≡ true → q s ≡ true) → Goes sees p x y → Goes sees q x y
-  goes_wider p q x y f a = record { lists = a.lists; later = a.later; past = a.past; own = own_wider sees p q x f a.later a.own }
+  pub goes_wider : (p q : Step → Bool) (x y : OwnRun) → ((s : Step) → p s ≡ true → q s ≡ true) → Goes sees p x y → Goes sees q x y
+  goes_wider p q x y f a = record { lists = a.lists; since = a.since; later = a.later; past = a.past; own = own_wider sees p q x f a.later a.own }
 
-  pub goes_grows : (p : Step → Bool) (x y : World) → Goes sees p x y → Follows x.past y.past
+  pub goes_grows : (p : Step → Bool) (x y : OwnRun) → Goes sees p x y → Follows x.past y.past
   goes_grows p x y a = subst (λ h. Follows x.past h) (sym a.past) (followed a.later x.past)
 
   -- a test that fails at every step of the kind
-  pub kept : (p mine : Step → Bool) (x y : World) → ((step : Step) → mine step ≡ true → p step ≡ false) → Goes sees mine x y
+  pub kept : (p mine : Step → Bool) (x y : OwnRun) → ((step : Step) → mine step ≡ true → p step ≡ false) → Goes sees mine x y
       → list_any (λ (e : Event). p e.step) y.past ≡ list_any (λ (e : Event). p e.step) x.past
   kept p mine x y f a =
       ap (λ past. list_any (λ (e : Event). p e.step) past) a.past
       ∙ own_kept sees p mine f x a.later a.own
 
-  pub goes_told : (g : ℕ) (b : Name) (mine : Step → Bool) (x y : World) → ((step : Step) → mine step ≡ true → step_crashes step g ≡ false)
+  pub goes_told : (g : ℕ) (b : Name) (mine : Step → Bool) (x y : OwnRun) → ((step : Step) → mine step ≡ true → step_crashes step g ≡ false)
       → Goes sees mine x y → told_since_crash g b x.past ≡ true → told_since_crash g b y.past ≡ true
   goes_told g b mine x y f a h =
       subst (λ past. told_since_crash g b past ≡ true) (sym a.past) (own_told sees g b mine f x a.later a.own h)
 
-  pub goes_ended : (p : Step → Bool) (x y : World) (b : Name) → Goes sees p x y → is_ended b x.past ≡ true → is_ended b y.past ≡ true
+  pub goes_ended : (p : Step → Bool) (x y : OwnRun) (b : Name) → Goes sees p x y → is_ended b x.past ≡ true → is_ended b y.past ≡ true
   goes_ended p x y b a h = ended_stays b x.past y.past (goes_grows p x y a) h
 
   -- what began and was settled stays so
-  pub settled_stays : (mine : Step → Bool) (x y : World) (b : Name) → ((g : ℕ) (step : Step) → mine step ≡ true → step_crashes step g ≡ false)
+  pub settled_stays : (mine : Step → Bool) (x y : OwnRun) (b : Name) → ((g : ℕ) (step : Step) → mine step ≡ true → step_crashes step g ≡ false)
       → Goes sees mine x y → IsSettled b x → IsSettled b y
   settled_stays mine x y b f a h = record {
     ended = goes_ended mine x y b a h.ended;
@@ -429,7 +432,7 @@ module _ {sees : Sees} where
     told = goes_told h.home b mine x y (f h.home) a h.told;
   }
 
-  pub began_new : (mine : Step → Bool) (x y : World) (t : Name) → Goes sees mine x y → Began t x y → is_begun t x.past ≡ false
+  pub began_new : (mine : Step → Bool) (x y : OwnRun) (t : Name) → Goes sees mine x y → Began t x y → is_begun t x.past ≡ false
   began_new mine x y t a b =
       own_new sees mine x a.later t a.own
       (subst (λ recent. is_begun t recent ≡ true) (append_cancel_right b.recent a.later x.past (sym b.parts ∙ a.past)) b.begun)
@@ -437,7 +440,7 @@ module _ {sees : Sees} where
   -- ---- what falls short
 
   -- so is what came to nothing of steps behind others, before others and among others
-  pub short_more : {kind : Step → Bool} (p : Step → Bool) (x y z : World) (f : CallFault) → CameToNothing sees p kind x y f → Goes sees p y z → CameToNothing sees p kind x z f
+  pub short_more : {kind : Step → Bool} (p : Step → Bool) (x y z : OwnRun) (f : CallFault) → CameToNothing sees p kind x y f → Goes sees p y z → CameToNothing sees p kind x z f
   short_more p x y z f (by_itself s) a =
       by_itself (record {
         before = s.before;
@@ -451,7 +454,7 @@ module _ {sees : Sees} where
   short_more p x y z f (in_arm start arm joined first arms inside s both part more) a =
       in_arm start arm joined first arms inside s both part (goes_then p joined y z more a)
 
-  pub short_after : {kind : Step → Bool} (p : Step → Bool) (x y z : World) (f : CallFault) → Goes sees p x y → CameToNothing sees p kind y z f → CameToNothing sees p kind x z f
+  pub short_after : {kind : Step → Bool} (p : Step → Bool) (x y z : OwnRun) (f : CallFault) → Goes sees p x y → CameToNothing sees p kind y z f → CameToNothing sees p kind x z f
   short_after p x y z f a (by_itself s) =
       by_itself (record {
         before = s.before;
@@ -465,7 +468,7 @@ module _ {sees : Sees} where
   short_after p x y z f a (in_arm start arm joined first arms inside s both part more) =
       in_arm start arm joined (goes_then p x y start a first) arms inside s both part more
 
-  pub short_wider : {kind : Step → Bool} (p q : Step → Bool) (x y : World) (f : CallFault) → ((s : Step) → p s ≡ true → q s ≡ true) → CameToNothing sees p kind x y f
+  pub short_wider : {kind : Step → Bool} (p q : Step → Bool) (x y : OwnRun) (f : CallFault) → ((s : Step) → p s ≡ true → q s ≡ true) → CameToNothing sees p kind x y f
       → CameToNothing sees q kind x y f
   unfolding goes_wider
   short_wider p q x y f w (by_itself s) =
@@ -483,7 +486,7 @@ module _ {sees : Sees} where
       (short_wider p q start arm f w s) (goes_wider p q start joined w both) part (goes_wider p q joined y w more)
 
   -- the first fault is kept through two parts
-  pub short_then : (p : Step → Bool) (x y z : World) (was mid is : Option CallFault) → Goes sees p x y → Goes sees p y z
+  pub short_then : (p : Step → Bool) (x y z : OwnRun) (was mid is : Option CallFault) → Goes sees p x y → Goes sees p y z
       → ((fault : CallFault) → mid ≡ Some fault → (was ≡ Some fault) ⊎ FallsShort sees p x y fault)
       → ((fault : CallFault) → is ≡ Some fault → (mid ≡ Some fault) ⊎ FallsShort sees p y z fault)
       → (fault : CallFault) → is ≡ Some fault → (was ≡ Some fault) ⊎ FallsShort sees p x z fault
@@ -497,14 +500,14 @@ module _ {sees : Sees} where
       by (inl k) = first (early fault k)
       by (inr s) = inr (short_after p x y z fault a s)
 
-  pub short_in : (p q : Step → Bool) (x y : World) (was : Option CallFault) (fault : CallFault) → ((s : Step) → p s ≡ true → q s ≡ true)
+  pub short_in : (p q : Step → Bool) (x y : OwnRun) (was : Option CallFault) (fault : CallFault) → ((s : Step) → p s ≡ true → q s ≡ true)
       → (was ≡ Some fault) ⊎ FallsShort sees p x y fault → (was ≡ Some fault) ⊎ FallsShort sees q x y fault
   short_in p q x y was fault w (inl h) = inl h
   short_in p q x y was fault w (inr s) = inr (short_wider p q x y fault w s)
 
   -- ---- settling
 
-  pub settles_wider : (p q : Step → Bool) (x y : World) (was is : Option CallFault) (So : Type 0) → ((s : Step) → p s ≡ true → q s ≡ true)
+  pub settles_wider : (p q : Step → Bool) (x y : OwnRun) (was is : Option CallFault) (So : Type 0) → ((s : Step) → p s ≡ true → q s ≡ true)
       → Settles sees p x y was is So → Settles sees q x y was is So
   settles_wider p q x y was is So w h = record {
     goes = goes_wider p q x y w h.goes;
@@ -514,7 +517,7 @@ module _ {sees : Sees} where
   }
 
   -- what went before settles nothing, and nothing comes to nothing there
-  pub settles_after : (p : Step → Bool) (x y z : World) (was is : Option CallFault) (So : Type 0) → Goes sees p x y → NoneBegan x y
+  pub settles_after : (p : Step → Bool) (x y z : OwnRun) (was is : Option CallFault) (So : Type 0) → Goes sees p x y → NoneBegan x y
       → Settles sees p y z was is So → Settles sees p x z was is So
   settles_after p x y z was is So g n h = record {
     goes = goes_then p x y z g h.goes;
@@ -523,7 +526,7 @@ module _ {sees : Sees} where
     short = short_then p x y z was was is g h.goes (λ fault e. inl e) h.short;
   }
 
-  pub settles_then : (p : Step → Bool) (x y z : World) (was mid is : Option CallFault) (So Also All : Type 0) → (So → Also → All)
+  pub settles_then : (p : Step → Bool) (x y z : OwnRun) (was mid is : Option CallFault) (So Also All : Type 0) → (So → Also → All)
       → Settles sees p x y was mid So → Settles sees p y z mid is Also → Settles sees p x z was is All
   settles_then p x y z was mid is So Also All both u v = record {
     goes = goes_then p x y z u.goes v.goes;
@@ -535,7 +538,7 @@ module _ {sees : Sees} where
     short = short_then p x y z was mid is u.goes v.goes u.short v.short;
   }
 
-  pub settles_same : (p : Step → Bool) (x y : World) (was : Option CallFault) (So : Type 0) → y ≡ x → So → Settles sees p x y was was So
+  pub settles_same : (p : Step → Bool) (x y : OwnRun) (was : Option CallFault) (So : Type 0) → y ≡ x → So → Settles sees p x y was was So
   settles_same p x y was So e so = record {
     goes = goes_same p x y e;
     none = none_same x y e;
@@ -545,12 +548,12 @@ module _ {sees : Sees} where
 
   -- ---- votes
 
-  pub voters_same : (mine : Step → Bool) (x y : World) → ((t : Name) (g : ℕ) (step : Step) → mine step ≡ true → step_votes step g t ≡ false)
+  pub voters_same : (mine : Step → Bool) (x y : OwnRun) → ((t : Name) (g : ℕ) (step : Step) → mine step ≡ true → step_votes step g t ≡ false)
       → Goes sees mine x y → AllVotersTold x y
   voters_same mine x y f a t g new old = absurd (clash new (kept (λ step. step_votes step g t) mine x y (f t g) a ∙ old))
 
   -- who voted in the first part stays told through the second
-  pub voters_then : (mine : Step → Bool) (x y z : World) → ((g : ℕ) (step : Step) → mine step ≡ true → step_crashes step g ≡ false)
+  pub voters_then : (mine : Step → Bool) (x y z : OwnRun) → ((g : ℕ) (step : Step) → mine step ≡ true → step_crashes step g ≡ false)
       → AllVotersTold x y → AllVotersTold y z → Goes sees mine y z → AllVotersTold x z
   voters_then mine x y z f early late a t g new old = of (has_voted g t y.past) refl
     where
@@ -560,7 +563,7 @@ module _ {sees : Sees} where
 
   -- ---- work
 
-  pub works_quiet : (a : Name) (old new : World) (left : Option CallFault) → Goes sees (works_in a) old new → NoneBegan old new → Works sees a old new left left
+  pub works_quiet : (a : Name) (old new : OwnRun) (left : Option CallFault) → Goes sees (works_in a) old new → NoneBegan old new → Works sees a old new left left
   works_quiet a old new left g n = record {
     tops = [];
     began = none_of old new;
@@ -569,7 +572,7 @@ module _ {sees : Sees} where
     short = λ fault h. inl h;
   }
 
-  pub works_then : (a : Name) (x y z : World) (p q r : Option CallFault) → Works sees a x y p q → Works sees a y z q r → Works sees a x z p r
+  pub works_then : (a : Name) (x y z : OwnRun) (p q r : Option CallFault) → Works sees a x y p q → Works sees a y z q r → Works sees a x z p r
   works_then a x y z p q r u v = record {
     tops = u.tops ++ v.tops;
     began =
@@ -602,13 +605,13 @@ module _ {sees : Sees} where
       of b first last new old false e = last b new e
 
   -- a subaction is below the action that calls it
-  pub called_below : (x : World) (a : Name) (g : ℕ) (s : Name) → IsAnsweredTo sees x (steps.Call a g) (answers.Began (s ∷ [])) → is_below a s ≡ true
+  pub called_below : (x : OwnRun) (a : Name) (g : ℕ) (s : Name) → IsAnsweredTo sees x (steps.Call a g) (answers.Began (s ∷ [])) → is_below a s ≡ true
   called_below x a g s given =
       let e = called_child (opening_in x.lists) a g given.seen s (sym given.answered) in
       subst (λ c. is_below a c ≡ true) (sym e) (child_below a (next_number (opening_in x.lists) a given.seen))
 
   -- work in an action below, and its end, are work in this one
-  module _ (a s : Name) (g : ℕ) (y z w : World) (was mid is : Option CallFault) (below : is_below a s ≡ true)
+  module _ (a s : Name) (g : ℕ) (y z w : OwnRun) (was mid is : Option CallFault) (below : is_below a s ≡ true)
       (inside : Works sees s y z was mid) (ends : Settles sees (finishes s) z w mid is (EndedAndTold s g w)) where
     abbrev mine : Step → Bool
     mine = works_with inside.tops a
@@ -644,8 +647,8 @@ module _ {sees : Sees} where
         crashes_not = with_crashes_not inside.tops a
 
   -- work behind a step that began actions, if these are settled too
-  module _ (a : Name) (step : Step) (names : List Name) (x y w : World) (was is : Option CallFault) (own : works_in a step ≡ true)
-      (answer : IsAnsweredTo sees x step (answers.Began names)) (after : y ≡ world_after x step (answers.Began names))
+  module _ (a : Name) (step : Step) (names : List Name) (x y w : OwnRun) (was is : Option CallFault) (own : works_in a step ≡ true)
+      (answer : IsAnsweredTo sees x step (answers.Began names)) (after : y ≡ own_after x step (answers.Began names))
       (work : Works sees a y w was is) (done : is ≡ None → (b : Name) → has_name names b ≡ true → IsSettled b w) where
     abbrev working : Step → Bool
     working = works_with work.tops a
@@ -660,7 +663,7 @@ module _ {sees : Sees} where
         → IsSettled b w
     begun_settled b h all new old true e =
         elim
-        (begun_cases (record { step = step; answer = answers.Began names }) x.past b (sym (ap (λ (v : World). is_begun b v.past) after) ∙ e)) [
+        (begun_cases (record { step = step; answer = answers.Began names }) x.past b (sym (ap (λ (v : OwnRun). is_begun b v.past) after) ∙ e)) [
           | inl k ↦ done h b k
           | inr k ↦ absurd (clash k old)
         ]
@@ -681,9 +684,9 @@ module _ {sees : Sees} where
     }
 
   -- a subaction was called, worked and ended
-  module _ (a s : Name) (g : ℕ) (x y z w : World) (was mid is : Option CallFault)
+  module _ (a s : Name) (g : ℕ) (x y z w : OwnRun) (was mid is : Option CallFault)
       (answer : IsAnsweredTo sees x (steps.Call a g) (answers.Began (s ∷ [])))
-      (after : y ≡ world_after x (steps.Call a g) (answers.Began (s ∷ [])))
+      (after : y ≡ own_after x (steps.Call a g) (answers.Began (s ∷ [])))
       (inside : Works sees s y z was mid) (ends : Settles sees (finishes s) z w mid is (EndedAndTold s g w)) where
     ended : Works sees a y w was is
     ended = works_ended a s g y z w was mid is (called_below x a g s answer) inside ends

@@ -8,11 +8,10 @@ use Rattle.run_model.specs.declared.history.Event.{Event}
 use Rattle.run_model.specs.declared.step.Step.{Step}
 use Rattle.run_model.specs.declared.step.Step.TheVariants as steps
 use Rattle.run_model.specs.Actions.{begins, is_aborted, is_begun, is_committed, is_ended, names_begun, step_aborts, step_commits, step_crashes}
-use Rattle.run_model.specs.Runs.{World}
 use Rattle.run_model.specs.Telling.{step_tells, told_since_crash}
 use Rattle.run_laws.proofs.Begun.{begun_cases, begun_more}
 use Rattle.run_laws.proofs.Names.{has_name_append}
-use Rattle.stepping.specs.Beside.{IsPartOf, Sees, beside, both, none}
+use Rattle.stepping.specs.Beside.{IsPartOf, OwnRun, Sees, beside, both, none}
 use Rattle.stepping.proofs.Beside.{part_of_all}
 use Rattle.service.specs.Arms.{AreJoined, IsMerge, any_step, of_neither, of_one, of_other}
 use Rattle.service.specs.Transacting.{AreOwn, Began, Goes, IsSettled, began_at, begins_at}
@@ -127,7 +126,7 @@ told_more step g b told ended true ended_of_more f e h = refl
 told_more step g b true ended false ended_of_more f e h = absurd (false≢true (f refl))
 told_more step g b false ended false ended_of_more f e h = tells_more step g b ended ended_of_more e h
 
-module _ (sees : Sees) (mine : Step → Bool) (x : World) (g : ℕ) (no_crash : (step : Step) → mine step ≡ true → step_crashes step g ≡ false) where
+module _ (sees : Sees) (mine : Step → Bool) (x : OwnRun) (g : ℕ) (no_crash : (step : Step) → mine step ≡ true → step_crashes step g ≡ false) where
   told_part : (b : Name) {few more : List Event} → IsPartOf few more → AreOwn sees mine x more → told_since_crash g b (few ++ x.past) ≡ true
       → told_since_crash g b (more ++ x.past) ≡ true
   told_part b none own h = h
@@ -143,23 +142,24 @@ module _ (sees : Sees) (mine : Step → Bool) (x : World) (g : ℕ) (no_crash : 
 
 module _ {sees : Sees} where
   -- the events of a run that went on are known by its end
-  pub own_at : (p : Step → Bool) (x y : World) (later : List Event) → Goes sees p x y → y.past ≡ later ++ x.past → AreOwn sees p x later
+  pub own_at : (p : Step → Bool) (x y : OwnRun) (later : List Event) → Goes sees p x y → y.past ≡ later ++ x.past → AreOwn sees p x later
   own_at p x y later a e = subst (AreOwn sees p x) (append_cancel_right a.later later x.past (sym a.past ∙ e)) a.own
 
-  own_merge : (p q mine : Step → Bool) → ((s : Step) → p s ≡ true → mine s ≡ true) → ((s : Step) → q s ≡ true → mine s ≡ true) → (x : World)
+  own_merge : (p q mine : Step → Bool) → ((s : Step) → p s ≡ true → mine s ≡ true) → ((s : Step) → q s ≡ true → mine s ≡ true) → (x : OwnRun)
       {one other all : List Event} → IsMerge one other all → AreOwn sees any_step x all → AreOwn sees p x one → AreOwn sees q x other
       → AreOwn sees mine x all
   own_merge p q mine f k x of_neither own a b = tt
   own_merge p q mine f k x (of_one e m) own a b = (f e.step a.0, own.1, own.2, own_merge p q mine f k x m own.3 a.3 b)
   own_merge p q mine f k x (of_other e m) own a b = (k e.step b.0, own.1, own.2, own_merge p q mine f k x m own.3 a b.3)
 
-  module _ (begun one other new : World) (j : AreJoined sees begun one other new) where
+  module _ (begun one other new : OwnRun) (j : AreJoined sees begun one other new) where
     module _ (p q mine : Step → Bool) (f : (s : Step) → p s ≡ true → mine s ≡ true) (k : (s : Step) → q s ≡ true → mine s ≡ true)
         (a : Goes sees p begun one) (b : Goes sees q begun other) where
       -- both went on by steps of a kind, and so did the caller
       unfoldable pub joined_goes : Goes sees mine begun new
       joined_goes = record {
         lists = j.of_both.lists;
+        since = j.of_both.since;
         later = j.of_both.later;
         past = j.of_both.past;
         own =
@@ -182,7 +182,7 @@ module _ {sees : Sees} where
         ]
 
   -- an arm's run is a part of the caller's
-  module _ (begun arm new : World) (own : Goes sees any_step begun arm) (all : Goes sees any_step begun new) (part : IsPartOf own.later all.later) where
+  module _ (begun arm new : OwnRun) (own : Goes sees any_step begun arm) (all : Goes sees any_step begun new) (part : IsPartOf own.later all.later) where
     pub committed_there : (a : Name) → is_committed a arm.past ≡ true → is_committed a new.past ≡ true
     committed_there a h =
         subst (λ past. is_committed a past ≡ true) (sym all.past)

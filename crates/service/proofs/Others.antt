@@ -6,10 +6,9 @@ use Rattle.action_names.specs.Names.{Name, has_name, is_prefix, same_name}
 use Rattle.run_model.specs.declared.step.Step.{Step}
 use Rattle.run_model.specs.declared.step.Step.TheVariants as steps
 use Rattle.run_model.specs.Actions.{is_aborted, is_committed, is_ended, step_aborts, step_commits}
-use Rattle.run_model.specs.Runs.{World}
 use Rattle.run_model.specs.Votes.{step_votes}
 use Rattle.run_laws.proofs.Names.{any_name, clash, same_name_true}
-use Rattle.stepping.specs.Beside.{Sees}
+use Rattle.stepping.specs.Beside.{OwnRun, Sees}
 use Rattle.service.specs.Transacting.{Goes, belongs, belongs_to, ends_top, is_below}
 use Rattle.service.proofs.Going.{belongs_each, kept, prefix_self}
 
@@ -46,7 +45,7 @@ aborts_no_other t b out _ h = refl
 none_at : (p : Name → Bool) (ts : List Name) (t : Name) → list_any p ts ≡ false → has_name ts t ≡ true → p t ≡ false
 none_at p ts t none i = false_from_ne_true _ (λ k. clash (any_name p ts t i k) none)
 
-pub ends_no_other : {sees : Sees} (ts : List Name) (b : Name) (x y : World) → list_any (λ t. is_prefix t b) ts ≡ false → Goes sees (belongs_to ts) x y
+pub ends_no_other : {sees : Sees} (ts : List Name) (b : Name) (x y : OwnRun) → list_any (λ t. is_prefix t b) ts ≡ false → Goes sees (belongs_to ts) x y
     → is_ended b y.past ≡ is_ended b x.past
 ends_no_other ts b x y out a =
     ap (λ c. c || is_aborted b y.past) (kept (λ step. step_commits step b) (belongs_to ts) x y commits_not a)

@@ -11,11 +11,11 @@ use Rattle.run_model.specs.declared.history.Event.{Event}
 use Rattle.run_model.specs.declared.step.Step.{Step}
 use Rattle.run_model.specs.Actions.{begins, begun, is_aborted, is_begun, is_committed, is_ended, names_begun, step_aborts, step_commits}
 use Rattle.run_model.specs.Openings.{opening_in}
-use Rattle.run_model.specs.Runs.{IsRun, World, is_accepted}
+use Rattle.run_model.specs.Runs.{IsRun, is_accepted}
 use Rattle.run_laws.proofs.Begun.{begun_once}
 use Rattle.run_laws.proofs.Ended.{committed_begun}
 use Rattle.run_laws.proofs.Names.{clash, has_name_append}
-use Rattle.stepping.specs.Beside.{IsAnsweredTo, IsPartOf, Sees, beside, both, none}
+use Rattle.stepping.specs.Beside.{IsAnsweredTo, IsPartOf, OwnRun, Sees, beside, both, none}
 
 -- what an event of a part did was done
 pub any_in_part : (p : Event → Bool) {own seen : List Event} → IsPartOf own seen → list_any p own ≡ true → list_any p seen ≡ true
@@ -57,7 +57,7 @@ module _ {own seen : List Event} (part : ∥ IsPartOf own seen ∥₁) where
     | inr k ↦ or_right (is_committed a seen) (is_aborted a seen) (aborted_seen a k)
   ]
 
-module _ {sees : Sees} (own : World) (step : Step) (answer : Answer) (given : IsAnsweredTo sees own step answer)
+module _ {sees : Sees} (own : OwnRun) (step : Step) (answer : Answer) (given : IsAnsweredTo sees own step answer)
     (accepted : IsTrue (is_accepted answer)) where
   -- the run once the step has happened
   run_then : IsRun (opening_in own.lists) (record { step = step; answer = answer } ∷ given.seen)

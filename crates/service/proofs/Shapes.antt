@@ -16,13 +16,13 @@ use Rattle.run_model.specs.Answers.{answer_of, granted_by, outcome, refused_or}
 use Rattle.run_model.specs.Keeping.{Performed, blockers_by, standing_of}
 use Rattle.run_model.specs.Openings.{Opening, first_content, opening_in}
 use Rattle.run_model.specs.Refusals.{checks, first_refusal}
-use Rattle.run_model.specs.Runs.{World, is_accepted, world_after}
+use Rattle.run_model.specs.Runs.{is_accepted}
 use Rattle.run_model.specs.Versions.{under}
 use Rattle.run_model.specs.Votes.{may_prepare}
 use Rattle.layer_contracts.specs.Stores.{fault_in}
 use Rattle.layer_contracts.specs.declared.guardian.Fault.{Fault}
 use Rattle.layer_contracts.specs.declared.guardian.Fault.TheVariants.{Memory, Stable}
-use Rattle.stepping.specs.Beside.{IsAnsweredTo, IsMadeWith, LeavesOrNone, Sees, is_waits}
+use Rattle.stepping.specs.Beside.{IsAnsweredTo, IsMadeWith, LeavesOrNone, OwnRun, Sees, is_waits, own_after}
 use Rattle.stepping.specs.Stepping.{Leaves}
 use Rattle.stepping.proofs.Beside.{leaves_step}
 use Rattle.service.specs.Calling.{IsAccepted, IsCall, IsFinishing, IsTaken, IsVote, LeavesStores, WaitsIf}
@@ -95,7 +95,7 @@ finishing _ f x h = absurd f
 -- ---- calls
 
 -- so was the step of a call that happened
-pub fits : {M : Type 0} (run : M → World) (sees : Sees) (leaves : Leaves M) (step : Step) (old new : M) (given : Answer)
+pub fits : {M : Type 0} (run : M → OwnRun) (sees : Sees) (leaves : Leaves M) (step : Step) (old new : M) (given : Answer)
     → IsCall run sees leaves step IsAccepted old new (Ok given) → Fits step given
 fits run sees leaves step old new given call =
     let at = call.gives.made.answered in
@@ -103,7 +103,7 @@ fits run sees leaves step old new given call =
     answer_fits (opening_in (run old).lists) step at.seen given (sym at.answered ∙ same) accepted
 
 -- a call gives what the answer of its step gives
-pub shown : {T M : Type 0} (run : M → World) (sees : Sees) (leaves : Leaves M) (step asked : Step) (Shows : T → Answer → Type 0) (old new : M)
+pub shown : {T M : Type 0} (run : M → OwnRun) (sees : Sees) (leaves : Leaves M) (step asked : Step) (Shows : T → Answer → Type 0) (old new : M)
     (given : Answer) (x : T) → step ≡ asked → IsCall run sees leaves step IsAccepted old new (Ok given) → Shows x given
     → IsCall run sees leaves asked Shows old new (Ok x)
 shown run sees leaves step asked Shows old new given x same call s = record {
@@ -126,9 +126,9 @@ fails leaves step old new Memory left = left
 fails leaves step old new Stable left = left
 
 -- a step that was made is a call
-pub taken_call : {M : Type 0} (run : M → World) (sees : Sees) (leaves : Leaves M) (step : Step) (old new : M) (made : Result Answer Fault)
+pub taken_call : {M : Type 0} (run : M → OwnRun) (sees : Sees) (leaves : Leaves M) (step : Step) (old new : M) (made : Result Answer Fault)
     (result : Result Answer CallFault) → IsTaken made result → IfOk made (IsAnsweredTo sees (run old) step)
-    → IfOk made (λ answer. run new ≡ world_after (run old) step answer) → OnErr made (run new ≡ run old)
+    → IfOk made (λ answer. run new ≡ own_after (run old) step answer) → OnErr made (run new ≡ run old)
     → LeavesOrNone leaves step (fault_in made) old new → IsCall run sees leaves step IsAccepted old new result
 taken_call run sees leaves step old new (Ok answer) (Ok given) is answered after err left = record {
   gives = record { answer = answer; made = record { answered = answered; after = after; stores = left }; shows = is };
@@ -139,13 +139,13 @@ taken_call run sees leaves step old new (Ok answer) (Ok given) is answered after
 taken_call run sees leaves step old new (Ok answer) (Err (Refused why)) is answered after err left = record {
   gives = tt;
   why = subst (IsAnsweredTo sees (run old) step) is answered;
-  same = after ∙ ap (λ a. world_after (run old) step a) is;
+  same = after ∙ ap (λ a. own_after (run old) step a) is;
   stores = left;
 }
 taken_call run sees leaves step old new (Ok answer) (Err (Waits names)) is answered after err left = record {
   gives = tt;
   why = subst (IsAnsweredTo sees (run old) step) is answered;
-  same = after ∙ ap (λ a. world_after (run old) step a) is;
+  same = after ∙ ap (λ a. own_after (run old) step a) is;
   stores = left;
 }
 taken_call run sees leaves step old new (Ok answer) (Err (Failed fault)) is answered after err left = absurd is
@@ -160,15 +160,15 @@ taken_call run sees leaves step old new (Err fault) (Err (Failed same)) is answe
 }
 
 -- so is one of which it is known how it leaves the stores
-pub made_call : {M : Type 0} (run : M → World) (sees : Sees) (leaves : Leaves M) (step : Step) (old new : M) (made : Result Answer Fault)
+pub made_call : {M : Type 0} (run : M → OwnRun) (sees : Sees) (leaves : Leaves M) (step : Step) (old new : M) (made : Result Answer Fault)
     (result : Result Answer CallFault) → IsTaken made result → IfOk made (IsAnsweredTo sees (run old) step)
-    → IfOk made (λ answer. run new ≡ world_after (run old) step answer) → OnErr made (run new ≡ run old) → leaves step (fault_in made) old new
+    → IfOk made (λ answer. run new ≡ own_after (run old) step answer) → OnErr made (run new ≡ run old) → leaves step (fault_in made) old new
     → IsCall run sees leaves step IsAccepted old new result
 made_call run sees leaves step old new made result is answered after err left =
     taken_call run sees leaves step old new made result is answered after err (leaves_step leaves step (fault_in made) old new left)
 
 -- and what came to nothing gives nothing
-pub call_fails : {T M : Type 0} (run : M → World) (sees : Sees) (leaves : Leaves M) (step : Step) (Shows : T → Answer → Type 0) (old new : M)
+pub call_fails : {T M : Type 0} (run : M → OwnRun) (sees : Sees) (leaves : Leaves M) (step : Step) (Shows : T → Answer → Type 0) (old new : M)
     (result : Result T CallFault) (fault : CallFault) → IsErrAnd result (λ x. x ≡ fault) → IsCall run sees leaves step IsAccepted old new (Err fault)
     → IsCall run sees leaves step Shows old new result
 call_fails run sees leaves step Shows old new (Ok x) fault h call = absurd h

@@ -8,11 +8,10 @@ use Rattle.action_names.specs.Names.{Name, is_prefix, parent_of}
 use Rattle.run_model.specs.declared.step.Step.{Step}
 use Rattle.run_model.specs.declared.step.Step.TheVariants as steps
 use Rattle.run_model.specs.Actions.{is_committed, step_commits}
-use Rattle.run_model.specs.Runs.{World}
 use Rattle.run_laws.proofs.Growth.{Follows, follows_through, here}
 use Rattle.run_laws.proofs.Names.{clash, same_name_true}
 use Rattle.service.specs.Transacting.{Begins, CommitsNoChild, Goes, Works, is_below, settles, works_in, works_with}
-use Rattle.stepping.specs.Beside.{Sees}
+use Rattle.stepping.specs.Beside.{OwnRun, Sees}
 use Rattle.stepping.specs.Stepping.{Leaves}
 use Rattle.service.specs.Calling.{IsCall}
 use Rattle.service.specs.Opening.{BeganAt}
@@ -49,7 +48,7 @@ child_commits_none a s b out under (steps.Decide c) h = absurd (false≢true h)
 child_commits_none a s b out under _ h = refl
 
 -- so do top actions that are not above it
-pub work_commits_none : {sees : Sees} (a s : Name) (x y : World) (was is : Option CallFault) → is_prefix s a ≡ false → Works sees s x y was is → CommitsNoChild a x y
+pub work_commits_none : {sees : Sees} (a s : Name) (x y : OwnRun) (was is : Option CallFault) → is_prefix s a ≡ false → Works sees s x y was is → CommitsNoChild a x y
 work_commits_none a s x y was is out work b under apart =
     kept (λ step. step_commits step b) (works_with work.tops s) x y
     (λ step own.
@@ -62,23 +61,23 @@ settles_commits_none s b (steps.Commit c) h = absurd (false≢true h)
 settles_commits_none s b (steps.Decide c) h = absurd (false≢true h)
 settles_commits_none s b _ h = refl
 
-pub settling_commits_none : {sees : Sees} (a s : Name) (x y : World) → Goes sees (settles s) x y → CommitsNoChild a x y
+pub settling_commits_none : {sees : Sees} (a s : Name) (x y : OwnRun) → Goes sees (settles s) x y → CommitsNoChild a x y
 settling_commits_none a s x y g b under apart = kept (λ step. step_commits step b) (settles s) x y (settles_commits_none s b) g
 
-pub none_committed_then : (a : Name) (x y z : World) → Follows x.past y.past → Follows y.past z.past → CommitsNoChild a x y → CommitsNoChild a y z
+pub none_committed_then : (a : Name) (x y z : OwnRun) → Follows x.past y.past → Follows y.past z.past → CommitsNoChild a x y → CommitsNoChild a y z
     → CommitsNoChild a x z
 none_committed_then a x y z f g m n b under apart =
     n b under (λ t h. apart t (began_within t x y z z f h here))
     ∙ m b under (λ t h. apart t (began_within t x x y z here h g))
 
-pub none_committed_same : (a : Name) (x y : World) → y ≡ x → CommitsNoChild a x y
-none_committed_same a x y e b under apart = ap (λ (w : World). is_committed b w.past) e
+pub none_committed_same : (a : Name) (x y : OwnRun) → y ≡ x → CommitsNoChild a x y
+none_committed_same a x y e b under apart = ap (λ (w : OwnRun). is_committed b w.past) e
 
-none_committed_prop : (a : Name) (x y : World) → IsProp (CommitsNoChild a x y)
+none_committed_prop : (a : Name) (x y : OwnRun) → IsProp (CommitsNoChild a x y)
 none_committed_prop a x y = Π_prop (λ b. →_prop (→_prop (Bool-set (is_committed b y.past) (is_committed b x.past))))
 
 -- a subaction that was called, worked and was not committed
-pub sub_undone : {M : Type 0} (run : M → World) (sees : Sees) (leaves : Leaves M) (a s : Name) (g : ℕ) (x y : M) (z w : World) (sub : Place)
+pub sub_undone : {M : Type 0} (run : M → OwnRun) (sees : Sees) (leaves : Leaves M) (a s : Name) (g : ℕ) (x y : M) (z w : OwnRun) (sub : Place)
     (was mid : Option CallFault) → IsCall run sees leaves (steps.Call a g) BeganAt x y (Ok sub) → s ≡ sub.action
     → ∥ Works sees sub.action (run y) z was mid ∥₁ → Goes sees (settles s) z w → CommitsNoChild a (run x) w
 sub_undone run sees leaves a s g x y z w sub was mid call same works goes =

@@ -8,12 +8,11 @@ use Rattle.run_model.specs.declared.history.Event.{Event}
 use Rattle.run_model.specs.declared.step.Step.{Step}
 use Rattle.run_model.specs.declared.step.Step.TheVariants as steps
 use Rattle.run_model.specs.Actions.{is_aborted, is_begun, is_committed, is_ended, step_aborts, step_commits}
-use Rattle.run_model.specs.Runs.{World}
 use Rattle.run_model.specs.Telling.{told_since_crash}
 use Rattle.run_model.specs.Votes.{has_voted, step_votes}
 use Rattle.run_laws.proofs.Growth.{Follows, here, later}
 use Rattle.run_laws.proofs.Names.{clash, same_name_self, same_name_true}
-use Rattle.stepping.specs.Beside.{Sees}
+use Rattle.stepping.specs.Beside.{OwnRun, Sees}
 use Rattle.service.specs.Outcomes.{has_committed}
 use Rattle.service.specs.declared.fault.CallFault.{CallFault}
 use Rattle.service.specs.declared.outcome.Transacted.{Transacted}
@@ -42,23 +41,23 @@ nested_begins_only a = record { votes = λ t g. refl; commits = λ b. refl; abor
 
 -- ---- a transaction
 
-module _ {T E : Type 0} {sees : Sees} (first : Step) (only : BeginsOnly first) (home number : ℕ) (at : Place) (w x z : World) (ended : Transacted T E)
+module _ {T E : Type 0} {sees : Sees} (first : Step) (only : BeginsOnly first) (home number : ℕ) (at : Place) (w x z : OwnRun) (ended : Transacted T E)
     (begins : Begins sees first at.action w x) (named : at.action ≡ number ∷ []) (home_there : began_at home at.action x.past ≡ true)
     (reached : has_number at.reached.items home ≡ true) (runs : RunsTop sees at x z ended) where
   abbrev top : Name
   top = at.action
 
-  abbrev y : World
+  abbrev y : OwnRun
   y = runs.worked
 
   abbrev event : Event
   event = record { step = first; answer = answers.Began (top ∷ []) }
 
-  there : x ≡ record { lists = w.lists; past = event ∷ w.past }
+  there : x ≡ record w { past = event ∷ w.past }
   there = begins.after
 
   follows_first : Follows w.past x.past
-  follows_first = subst (λ (v : World). Follows w.past v.past) (sym there) (later event here)
+  follows_first = subst (λ (v : OwnRun). Follows w.past v.past) (sym there) (later event here)
 
   abbrev mine : Step → Bool
   mine = belongs_to (top ∷ runs.works.tops)
@@ -85,7 +84,7 @@ module _ {T E : Type 0} {sees : Sees} (first : Step) (only : BeginsOnly first) (
   -- ---- the top actions that began in it are others
 
   begun_top : is_begun top x.past ≡ true
-  begun_top = ap (λ (v : World). is_begun top v.past) there ∙ or_left (same_name top top) _ (same_name_self top)
+  begun_top = ap (λ (v : OwnRun). is_begun top v.past) there ∙ or_left (same_name top top) _ (same_name_self top)
 
   apart : (t : Name) → has_name runs.works.tops t ≡ true → is_prefix t top ≡ false
   apart t i =
@@ -192,7 +191,7 @@ module _ {T E : Type 0} {sees : Sees} (first : Step) (only : BeginsOnly first) (
     number = number;
     named = named;
     recent = event ∷ [];
-    parts = ap (λ (v : World). v.past) there;
+    parts = ap (λ (v : OwnRun). v.past) there;
     begun = or_left (same_name top top) _ (same_name_self top);
   }
 

@@ -4,8 +4,7 @@ use Rattle.std.specs.Result.{IsErrAnd}
 use Rattle.action_names.specs.Names.{Name}
 use Rattle.run_model.specs.declared.step.Step.{Step}
 use Rattle.run_model.specs.declared.step.Step.TheVariants as steps
-use Rattle.run_model.specs.Runs.{World}
-use Rattle.stepping.specs.Beside.{Sees}
+use Rattle.stepping.specs.Beside.{OwnRun, Sees}
 use Rattle.stepping.specs.Stepping.{Leaves}
 use Rattle.service.specs.Calling.{ComesToNothing, IsCall}
 use Rattle.service.specs.Opening.{BeganAt}
@@ -22,9 +21,9 @@ pub failed_of : {T E : Type 0} (comes : CallFault → E → Type 0) (stopped : C
 failed_of comes stopped x (Ok y) fault h why = absurd h
 failed_of comes stopped x (Err e) fault h why = inr (refl, fault, h, why)
 
-module _ {M : Type 0} (run : M → World) (sees : Sees) (leaves : Leaves M) {J T E : Type 0} (does : Does J T E) where
+module _ {M : Type 0} (run : M → OwnRun) (sees : Sees) (leaves : Leaves M) {J T E : Type 0} (does : Does J T E) where
   -- in a top action that began
-  pub ran_in : (first : Step) (old begun : M) (new : World) (at : Place) (before after : J) (outcome : Outcome T E)
+  pub ran_in : (first : Step) (old begun : M) (new : OwnRun) (at : Place) (before after : J) (outcome : Outcome T E)
       → IsCall run sees leaves first BeganAt old begun (Ok at)
       → ((done : Result T E) × IsOutcomeOf done outcome × RunsOnce sees does (ends_top at.action) (run begun) new before after done)
       → (done : Result T E) × IsOutcomeOf done outcome × RunsIn sees does first ends_top (run old) new before after done
@@ -35,7 +34,7 @@ module _ {M : Type 0} (run : M → World) (sees : Sees) (leaves : Leaves M) {J T
   )
 
   -- in a subaction, of which the call gave this
-  pub sub_ran : (comes : CallFault → E → Type 0) (a : Name) (g : ℕ) (old begun : M) (worked new : World) (sub : Place) (s : Name) (before after : J)
+  pub sub_ran : (comes : CallFault → E → Type 0) (a : Name) (g : ℕ) (old begun : M) (worked new : OwnRun) (sub : Place) (s : Name) (before after : J)
       (gave done result : Result T E) → IsCall run sees leaves (steps.Call a g) BeganAt old begun (Ok sub) → s ≡ sub.action → gave ≡ done
       → does before (run begun) gave after worked → Goes sees (finishes s) worked new
       → IsResultOf comes (ComesToNothing sees worked (steps.Commit s)) done result → CallsOnce sees does comes a g (run old) new before after result

@@ -6,10 +6,10 @@ use Rattle.run_model.specs.declared.answer.Answer.{Answer}
 use Rattle.run_model.specs.declared.answer.Answer.TheVariants as answers
 use Rattle.run_model.specs.declared.step.Step.{Step}
 use Rattle.run_model.specs.declared.step.Step.TheVariants as steps
-use Rattle.run_model.specs.Runs.{World, is_accepted}
+use Rattle.run_model.specs.Runs.{is_accepted}
 use Rattle.layer_contracts.specs.declared.guardian.Fault.{Fault}
 use Rattle.layer_contracts.specs.declared.guardian.Fault.TheVariants.{Memory, Stable}
-use Rattle.stepping.specs.Beside.{IsAnsweredTo, IsMadeWith, Sees}
+use Rattle.stepping.specs.Beside.{IsAnsweredTo, IsMadeWith, OwnRun, Sees}
 use Rattle.stepping.specs.Stepping.{Leaves}
 use Rattle.service.specs.declared.fault.CallFault.{CallFault}
 use Rattle.service.specs.declared.fault.CallFault.TheVariants.{Refused, Waits, Failed}
@@ -56,7 +56,7 @@ IsTaken _ _ = ⊥
 -- ---- calls
 
 -- The step came to nothing for this reason, which is its answer; a fault is no answer.
-abbrev pub ComesToNothing : Sees → World → Step → CallFault → Type 0
+abbrev pub ComesToNothing : Sees → OwnRun → Step → CallFault → Type 0
 ComesToNothing sees own step (Refused why) = IsAnsweredTo sees own step (answers.Refused why)
 ComesToNothing sees own step (Waits names) = IsAnsweredTo sees own step (answers.Waits names)
 ComesToNothing sees own step (Failed fault) = Unit {0}
@@ -73,7 +73,7 @@ LeavesStores leaves step old new (Waits names) = leaves step None old new
 LeavesStores leaves step old new (Failed Memory) = (new ≡ old) ⊎ leaves step (Some Memory) old new
 LeavesStores leaves step old new (Failed Stable) = leaves step (Some Stable) old new
 
-module _ {T M : Type 0} (run : M → World) (sees : Sees) (leaves : Leaves M) (step : Step)
+module _ {T M : Type 0} (run : M → OwnRun) (sees : Sees) (leaves : Leaves M) (step : Step)
     (Shows : T → Answer → Type 0) (old new : M) where
   -- the step was made, and its answer gives this
   pub record Gives (x : T) : Type 0 where

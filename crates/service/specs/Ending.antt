@@ -6,15 +6,15 @@ use Rattle.run_model.specs.declared.answer.Answer.TheVariants as answers
 use Rattle.run_model.specs.declared.step.Step.{Step}
 use Rattle.run_model.specs.declared.step.Step.TheVariants as steps
 use Rattle.run_model.specs.Actions.{is_committed}
-use Rattle.run_model.specs.Runs.{World, is_accepted}
-use Rattle.stepping.specs.Beside.{IsMadeWith, Sees}
+use Rattle.run_model.specs.Runs.{is_accepted}
+use Rattle.stepping.specs.Beside.{IsMadeWith, OwnRun, Sees}
 use Rattle.stepping.specs.Stepping.{Leaves}
 use Rattle.service.specs.Calling.{ComesToNothing, LeavesStores}
 use Rattle.service.specs.declared.fault.CallFault.{CallFault}
 
 -- ---- several steps
 
-module _ {M : Type 0} (run : M → World) (sees : Sees) (leaves : Leaves M) where
+module _ {M : Type 0} (run : M → OwnRun) (sees : Sees) (leaves : Leaves M) where
   -- the step was made, and happened
   pub record HasHappened (step : Step) (old new : M) : Type 0 where
     pub answer : Answer
@@ -59,7 +59,7 @@ abbrev pub ending : Bool → Name → List ℕ → List ℕ → List Step
 ending committed top polled told =
     steps.Close top ∷ prepares top polled ++ verdict committed top ∷ tells top told
 
-module _ {M : Type 0} (run : M → World) (sees : Sees) (leaves : Leaves M) where
+module _ {M : Type 0} (run : M → OwnRun) (sees : Sees) (leaves : Leaves M) where
   -- Between these steps, which happened, this guardian voted no.
   pub record VotesNo (top : Name) (before : List Step) (g : ℕ) (after : List Step)
       (old new : M) : Type 0 where

@@ -3,7 +3,7 @@ use Rattle.std.specs.Prelude.{ℕ, List, [], ◌∷◌, Option, None}
 use Rattle.action_names.specs.Names.{Name}
 use Rattle.run_model.specs.declared.answer.Answer.{Answer}
 use Rattle.run_model.specs.Openings.{fresh_lists}
-use Rattle.run_model.specs.Runs.{World}
+use Rattle.stepping.specs.Beside.{OwnRun}
 use Rattle.service.specs.Calling.{BeganOne, BeganThese}
 use Rattle.service.specs.declared.fault.CallFault.{CallFault}
 use Rattle.service.specs.declared.place.Place.{Place}
@@ -19,7 +19,7 @@ BeganBoth (one, other) answer = BeganThese (one.action ∷ other.action ∷ []) 
 -- The run, the action and its home as work begins, the guardians reached until then, and what came to nothing until
 -- then.
 pub record Start : Type 0 where
-  pub run : World
+  pub run : OwnRun
   pub action : Name
   pub home : ℕ
   pub reached : List ℕ
@@ -28,7 +28,7 @@ pub record Start : Type 0 where
 -- a start of no work
 abbrev pub nowhere : Start
 nowhere = record {
-  run = record { lists = fresh_lists []; past = [] };
+  run = record { lists = fresh_lists []; past = []; since = [] };
   action = [];
   home = 0;
   reached = [];

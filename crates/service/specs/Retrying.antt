@@ -1,8 +1,7 @@
 -- When a transaction is made again, and how often.
 use Rattle.std.specs.Prelude.{◌≡◌, ◌⊎◌, ℕ, zero, suc, Bool, true, false, Option, Some, None, is_some, if◌then◌else◌}
 use Rattle.run_model.specs.declared.step.Step.TheVariants as steps
-use Rattle.run_model.specs.Runs.{World}
-use Rattle.stepping.specs.Beside.{Sees}
+use Rattle.stepping.specs.Beside.{OwnRun, Sees}
 use Rattle.service.specs.Outcomes.{fault_passes}
 use Rattle.service.specs.Transacting.{TransactsAt}
 use Rattle.service.specs.Working.{Does, TransactsOnce}
@@ -54,20 +53,20 @@ module _ {E : Type 0} (obstacle : E → Option Obstacle) (retries : Retries) whe
 module _ {J T E : Type 0} (sees : Sees) (does : Does J T E) (again : Transacted T E → Bool)
     (home : ℕ) where
   -- A transaction of this work ended so.
-  pub record IsMadeOnce (old new : World) (before after : J) (ended : Transacted T E) : Type 0 where
+  pub record IsMadeOnce (old new : OwnRun) (before after : J) (ended : Transacted T E) : Type 0 where
     pub transacts : TransactsAt sees home old new ended
     pub once : TransactsOnce sees does (steps.Top home) old new before after ended.outcome
 
   -- One did, and is to be made again.
-  pub record IsRepeated (old mid : World) (before between : J) : Type 0 where
+  pub record IsRepeated (old mid : OwnRun) (before between : J) : Type 0 where
     pub ended : Transacted T E
     pub made : IsMadeOnce old mid before between ended
     pub named : again ended ≡ true
 
   -- It was made again as often as it was to be, but this often at most; the last one ended so.
-  abbrev pub Retried : ℕ → World → World → J → J → Transacted T E → Type 0
+  abbrev pub Retried : ℕ → OwnRun → OwnRun → J → J → Transacted T E → Type 0
   Retried zero old new before after last = IsMadeOnce old new before after last
   Retried (suc more) old new before after last =
       ∥ IsMadeOnce old new before after last × (again last ≡ false)
-      ⊎ ((mid : World) × (between : J) × IsRepeated old mid before between
+      ⊎ ((mid : OwnRun) × (between : J) × IsRepeated old mid before between
       × Retried more mid new between after last) ∥₁

@@ -4,13 +4,13 @@ use Rattle.std.specs.Result.{is_ok}
 use Rattle.std.specs.declared.vec.Vec.{Vec}
 use Rattle.action_names.specs.Names.{Name, is_prefix, parent_of, same_name}
 use Rattle.run_model.specs.declared.answer.Answer.TheVariants as answers
+use Rattle.run_model.specs.declared.history.Event.{Event}
 use Rattle.run_model.specs.declared.step.ArmKind.TheVariants as kinds
 use Rattle.run_model.specs.declared.step.Step.{Step}
 use Rattle.run_model.specs.declared.step.Step.TheVariants as steps
 use Rattle.run_model.specs.Actions.{is_committed}
-use Rattle.run_model.specs.Runs.{World, world_after}
 use Rattle.layer_contracts.specs.declared.guardian.Fault.{Fault}
-use Rattle.stepping.specs.Beside.{IsAnsweredTo, Sees}
+use Rattle.stepping.specs.Beside.{IsAnsweredTo, OwnRun, Sees, own_after, started}
 use Rattle.service.specs.Arms.{AreJoined}
 use Rattle.service.specs.Calling.{ComesToNothing}
 use Rattle.service.specs.Transacting.{Began, CommitsNoChild, EndedAndTold, Goes, Includes, Settles, Works, began_at, finishes, settles}
@@ -31,9 +31,9 @@ arms_of a = steps.Arms a (kinds.Sub ∷ kinds.Sub ∷ [])
 
 module _ (sees : Sees) where
   -- The step began these two.
-  pub record BeginArms (a one other : Name) (old begun : World) : Type 0 where
+  pub record BeginArms (a one other : Name) (old begun : OwnRun) : Type 0 where
     pub answer : IsAnsweredTo sees old (arms_of a) (answers.Began (one ∷ other ∷ []))
-    pub after : begun ≡ world_after old (arms_of a) (answers.Began (one ∷ other ∷ []))
+    pub after : begun ≡ own_after old (arms_of a) (answers.Began (one ∷ other ∷ []))
 
 -- a step that aborts one of two actions, or tells how it ended
 abbrev pub settles_both : Name → Name → Step → Bool
@@ -41,7 +41,7 @@ settles_both one other step = settles one step || settles other step
 
 -- No child of this action but these two has committed in between, unless it is below a top action that began in
 -- between.
-abbrev pub CommitsNoOther : Name → Name → Name → World → World → Type 0
+abbrev pub CommitsNoOther : Name → Name → Name → OwnRun → OwnRun → Type 0
 CommitsNoOther a one other old new = (b : Name) → parent_of b ≡ a
     → same_name one b ≡ false → same_name other b ≡ false
     → ((t : Name) → Began t old new → is_prefix t b ≡ false)
@@ -52,9 +52,9 @@ CommitsNoOther a one other old new = (b : Name) → parent_of b ≡ a
 -- The work ran once in the arm, and gave this, from which the result comes. Then the arm was committed or aborted, and
 -- its guardian was told.
 pub record RunsInArm {J T E : Type 0} (sees : Sees) (does : Does J T E)
-    (comes : CallFault → E → Type 0) (arm : Name) (begun : World) (before after : J)
-    (result : Result T E) (now : World) : Type 0 where
-  pub worked : World
+    (comes : CallFault → E → Type 0) (arm : Name) (begun : OwnRun) (before after : J)
+    (result : Result T E) (now : OwnRun) : Type 0 where
+  pub worked : OwnRun
   pub done : Result T E
   pub ran : does before begun done after worked
   pub ended : Goes sees (finishes arm) worked now
@@ -65,7 +65,7 @@ pub record RunsInArm {J T E : Type 0} (sees : Sees) (does : Does J T E)
 module _ {T E : Type 0} (sees : Sees) (comes : CallFault → E → Type 0) where
   -- The arm was committed or aborted, and its guardian was told. If it gives a value, it has committed, and its list of
   -- guardians has room for as many again.
-  pub record IsEndOf (at now : Place) (worked run : World) (done result : Result T E) : Type 0 where
+  pub record IsEndOf (at now : Place) (worked run : OwnRun) (done result : Result T E) : Type 0 where
     pub action : now.action ≡ at.action
     pub reached : Includes at.reached.items now.reached.items
     pub ends : Settles sees (finishes at.action) worked run at.left now.left
@@ -77,9 +77,9 @@ module _ {T E : Type 0} (sees : Sees) (comes : CallFault → E → Type 0) where
 
 module _ {J T E : Type 0} (sees : Sees) (does : Does J T E) (comes : CallFault → E → Type 0) where
   -- The work ran in the arm, which then ended.
-  pub record EndsArm (at now : Place) (begun run : World) (before after : J)
+  pub record EndsArm (at now : Place) (begun run : OwnRun) (before after : J)
       (kept : Option (Result T E)) : Type 0 where
-    pub worked : World
+    pub worked : OwnRun
     pub left : Place
     pub done : Result T E
     pub result : Result T E
@@ -96,32 +96,34 @@ module _ {J T E : Type 0} (sees : Sees) (does : Does J T E) (comes : CallFault �
 module _ {J T E K U F : Type 0} (sees : Sees) (does : Does J T E) (also_does : Does K U F)
     (comes : CallFault → E → Type 0) (also_comes : CallFault → F → Type 0) where
   -- The arms began and ran at once. Each has committed exactly if it gives a value, and no other child has.
-  pub record RanTogether (a : Name) (old new : World) (one one_after : J) (other other_after : K)
+  pub record RanTogether (a : Name) (old new : OwnRun) (one one_after : J) (other other_after : K)
       (gave : Result T E) (also_gave : Result U F) : Type 0 where
     pub first : Name
     pub second : Name
-    pub begun : World
+    pub begun : OwnRun
     pub begins : BeginArms sees a first second old begun
-    pub first_run : World
-    pub second_run : World
-    pub first_ran : RunsInArm sees does comes first begun one one_after gave first_run
-    pub second_ran : RunsInArm sees also_does also_comes second begun other other_after also_gave
-        second_run
-    pub joined : ∥ AreJoined sees begun first_run second_run new ∥₁
+    pub since : List (List Event)
+    pub first_run : OwnRun
+    pub second_run : OwnRun
+    pub first_ran : RunsInArm sees does comes first (started begun since) one one_after gave
+        first_run
+    pub second_ran : RunsInArm sees also_does also_comes second (started begun since) other
+        other_after also_gave second_run
+    pub joined : ∥ AreJoined sees begun since first_run second_run new ∥₁
     pub first_says : is_committed first new.past ≡ is_ok gave
     pub second_says : is_committed second new.past ≡ is_ok also_gave
     pub no_other : CommitsNoOther a first second old new
 
 -- The arms began, and could not be run. Both were aborted.
-pub record AreCalledOff (sees : Sees) (a : Name) (old new : World) (fault : CallFault) : Type 0 where
+pub record AreCalledOff (sees : Sees) (a : Name) (old new : OwnRun) (fault : CallFault) : Type 0 where
   pub first : Name
   pub second : Name
-  pub begun : World
+  pub begun : OwnRun
   pub begins : BeginArms sees a first second old begun
   pub aborted : Goes sees (settles_both first second) begun new
   pub failed : (why : Fault) × (fault ≡ Failed why)
 
 -- the arms did not begin, for this reason, and nothing has happened; or they were called off
-abbrev pub RanNot : Sees → Name → World → World → CallFault → Type 0
+abbrev pub RanNot : Sees → Name → OwnRun → OwnRun → CallFault → Type 0
 RanNot sees a old new fault = (ComesToNothing sees old (arms_of a) fault × (new ≡ old))
     ⊎ AreCalledOff sees a old new fault

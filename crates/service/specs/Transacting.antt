@@ -9,10 +9,10 @@ use Rattle.run_model.specs.declared.step.Step.{Step}
 use Rattle.run_model.specs.declared.step.Step.TheVariants as steps
 use Rattle.run_model.specs.Actions.{begins, is_begun, is_committed, is_ended}
 use Rattle.run_model.specs.Openings.{opening_in}
-use Rattle.run_model.specs.Runs.{World, history_from, is_accepted, world_after}
+use Rattle.run_model.specs.Runs.{history_from, is_accepted}
 use Rattle.run_model.specs.Telling.{told_since_crash}
 use Rattle.run_model.specs.Votes.{has_voted}
-use Rattle.stepping.specs.Beside.{IsAnsweredTo, IsPartOf, Sees, SeesOwn}
+use Rattle.stepping.specs.Beside.{IsAnsweredTo, IsPartOf, OwnRun, Sees, SeesOwn, own_after, started}
 use Rattle.service.specs.Calling.{ComesToNothing}
 use Rattle.service.specs.Outcomes.{has_committed}
 use Rattle.service.specs.declared.fault.CallFault.{CallFault}
@@ -99,11 +99,11 @@ is_voted_down t past = list_any (λ (e : Event). votes_no t e.step e.answer) pas
 -- ---- what steps leave
 
 -- no action began in between
-abbrev pub NoneBegan : World → World → Type 0
+abbrev pub NoneBegan : OwnRun → OwnRun → Type 0
 NoneBegan old new = (b : Name) → is_begun b new.past ≡ is_begun b old.past
 
 -- A top action began in between.
-pub record Began (t : Name) (old new : World) : Type 0 where
+pub record Began (t : Name) (old new : OwnRun) : Type 0 where
   pub number : ℕ
   pub named : t ≡ number ∷ []
   pub recent : List Event
@@ -111,7 +111,7 @@ pub record Began (t : Name) (old new : World) : Type 0 where
   pub begun : is_begun t recent ≡ true
 
 -- each of these did
-abbrev pub AllBegan : List Name → World → World → Type 0
+abbrev pub AllBegan : List Name → OwnRun → OwnRun → Type 0
 AllBegan tops old new = (t : Name) → has_name tops t ≡ true → Began t old new
 
 -- the step begins actions at this guardian, if its maker began there in case of a nested top action and of arms
@@ -138,28 +138,28 @@ began_at g b (e ∷ past) =
     (begins e b && begins_at e.step g (λ c. began_at g c past)) || began_at g b past
 
 -- It has ended, and the guardian at which it began was told.
-pub record IsSettled (b : Name) (now : World) : Type 0 where
+pub record IsSettled (b : Name) (now : OwnRun) : Type 0 where
   pub ended : is_ended b now.past ≡ true
   pub home : ℕ
   pub there : began_at home b now.past ≡ true
   pub told : told_since_crash home b now.past ≡ true
 
 -- so is every action that was begun in between
-abbrev pub AllSettled : World → World → Type 0
+abbrev pub AllSettled : OwnRun → OwnRun → Type 0
 AllSettled old new = (b : Name) → is_begun b new.past ≡ true → is_begun b old.past ≡ false
     → IsSettled b new
 
 -- each guardian that voted in between was told how the top action ended on which it voted
-abbrev pub AllVotersTold : World → World → Type 0
+abbrev pub AllVotersTold : OwnRun → OwnRun → Type 0
 AllVotersTold old new = (t : Name) (g : ℕ) → has_voted g t new.past ≡ true
     → has_voted g t old.past ≡ false → told_since_crash g t new.past ≡ true
 
 -- it has ended, and this guardian was told
-abbrev pub EndedAndTold : Name → ℕ → World → Type 0
+abbrev pub EndedAndTold : Name → ℕ → OwnRun → Type 0
 EndedAndTold a g now = (is_ended a now.past ≡ true) × (told_since_crash g a now.past ≡ true)
 
 -- no child of this action has committed in between, unless it is below a top action that began in between
-abbrev pub CommitsNoChild : Name → World → World → Type 0
+abbrev pub CommitsNoChild : Name → OwnRun → OwnRun → Type 0
 CommitsNoChild a old new = (b : Name) → parent_of b ≡ a
     → ((t : Name) → Began t old new → is_prefix t b ≡ false)
     → is_committed b new.past ≡ is_committed b old.past
@@ -174,33 +174,34 @@ abbrev pub Includes : List ℕ → List ℕ → Type 0
 Includes few more = (n : ℕ) → has_number few n ≡ true → has_number more n ≡ true
 
 -- these guardians voted
-abbrev pub AllVoted : Name → List ℕ → World → Type 0
+abbrev pub AllVoted : Name → List ℕ → OwnRun → Type 0
 AllVoted t guardians now = (g : ℕ) → has_number guardians g ≡ true → has_voted g t now.past ≡ true
 
 -- these guardians were told how it ended
-abbrev pub AllTold : Name → List ℕ → World → Type 0
+abbrev pub AllTold : Name → List ℕ → OwnRun → Type 0
 AllTold t guardians now = list_all (λ g. told_since_crash g t now.past) guardians ≡ true
 
 -- ---- steps and their answers, where such histories are seen
 
 module _ (sees : Sees) where
   -- each event is of a step of this kind, with an answer that the caller was given after the events before
-  abbrev pub AreOwn : (Step → Bool) → World → List Event → Type 0
+  abbrev pub AreOwn : (Step → Bool) → OwnRun → List Event → Type 0
   AreOwn mine old [] = Unit {0}
   AreOwn mine old (e ∷ later) = (mine e.step ≡ true) × IsTrue (is_accepted e.answer)
-      × IsAnsweredTo sees (record { lists = old.lists; past = later ++ old.past }) e.step e.answer
+      × IsAnsweredTo sees (record old { past = later ++ old.past }) e.step e.answer
       × AreOwn mine old later
 
   -- Steps of this kind, one after another, lead from one run to the other.
-  pub record Goes (mine : Step → Bool) (old new : World) : Type 0 where
+  pub record Goes (mine : Step → Bool) (old new : OwnRun) : Type 0 where
     pub lists : new.lists ≡ old.lists
+    pub since : new.since ≡ old.since
     pub later : List Event
     pub past : new.past ≡ later ++ old.past
     pub own : AreOwn mine old later
 
   -- At the caller's own run, one of these steps, of this kind, came to nothing for this reason.
-  pub record StopsAt (mine kind : Step → Bool) (old new : World) (fault : CallFault) : Type 0 where
-    pub before : World
+  pub record StopsAt (mine kind : Step → Bool) (old new : OwnRun) (fault : CallFault) : Type 0 where
+    pub before : OwnRun
     pub first : Goes mine old before
     pub step : Step
     pub own : mine step ≡ true
@@ -211,23 +212,24 @@ module _ (sees : Sees) where
 -- Of these steps one of this kind came to nothing, for this reason: at the caller's own run, or in an arm. The arm's run
 -- went on from that at which arms began, and what it did is a part of what the caller then went on by. Who runs no arms
 -- has only the first.
-pub data CameToNothing (sees : Sees) (mine kind : Step → Bool) : World → World → CallFault → Type 0 where
-  by_itself : {old new : World} {fault : CallFault} → StopsAt sees mine kind old new fault
+pub data CameToNothing (sees : Sees) (mine kind : Step → Bool) : OwnRun → OwnRun → CallFault → Type 0 where
+  by_itself : {old new : OwnRun} {fault : CallFault} → StopsAt sees mine kind old new fault
       → CameToNothing sees mine kind old new fault
-  in_arm : {old new : World} {fault : CallFault} (begun arm joined : World)
+  in_arm : {old new : OwnRun} {fault : CallFault} (begun arm joined : OwnRun) (since : List (List Event))
       → Goes sees mine old begun → begins_arms begun.past ≡ true
-      → (inside : Goes sees mine begun arm) → CameToNothing sees mine kind begun arm fault
+      → (inside : Goes sees mine (started begun since) arm)
+      → CameToNothing sees mine kind (started begun since) arm fault
       → (both : Goes sees mine begun joined) → IsPartOf inside.later both.later
       → Goes sees mine joined new → CameToNothing sees mine kind old new fault
 
 module _ (sees : Sees) where
   -- one that was to settle something did
-  abbrev pub FallsShort : (Step → Bool) → World → World → CallFault → Type 0
+  abbrev pub FallsShort : (Step → Bool) → OwnRun → OwnRun → CallFault → Type 0
   FallsShort mine old new fault = CameToNothing sees mine is_settling old new fault
 
   -- Steps of this kind that begin nothing. Unless one came to nothing, it is so afterwards. Else the reason is kept, of
   -- one of these steps or of one before.
-  pub record Settles (mine : Step → Bool) (old new : World) (was is : Option CallFault)
+  pub record Settles (mine : Step → Bool) (old new : OwnRun) (was is : Option CallFault)
       (So : Type 0) : Type 0 where
     pub goes : Goes sees mine old new
     pub none : NoneBegan old new
@@ -239,7 +241,7 @@ module _ (sees : Sees) where
 
   -- Work in this action, and in top actions that began in it. Unless a step came to nothing, all that it began is
   -- settled. Else the reason is kept, of one of these steps or of one before.
-  pub record Works (a : Name) (old new : World) (was is : Option CallFault) : Type 0 where
+  pub record Works (a : Name) (old new : OwnRun) (was is : Option CallFault) : Type 0 where
     pub tops : List Name
     pub began : AllBegan tops old new
     pub goes : Goes sees (works_with tops a) old new
@@ -250,7 +252,7 @@ module _ (sees : Sees) where
   -- ---- the end of a top action
 
   -- Steps that end a top action, whether they commit it or not. Only these guardians vote.
-  pub record Concludes (t : Name) (guardians : List ℕ) (old new : World)
+  pub record Concludes (t : Name) (guardians : List ℕ) (old new : OwnRun)
       (committed : Bool) : Type 0 where
     pub goes : Goes sees (ends_top t) old new
     pub none : NoneBegan old new
@@ -260,7 +262,7 @@ module _ (sees : Sees) where
 
   -- The top action is ended. Unless a step came to nothing, these guardians were told. Else the reason is kept, of one
   -- of these steps or of one before.
-  pub record EndsTop (t : Name) (guardians : List ℕ) (old new : World)
+  pub record EndsTop (t : Name) (guardians : List ℕ) (old new : OwnRun)
       (was is : Option CallFault) (committed : Bool) : Type 0 where
     pub concludes : Concludes t guardians old new committed
     pub settled : is ≡ None → (was ≡ None) × (is_ended t new.past ≡ true)
@@ -271,23 +273,23 @@ module _ (sees : Sees) where
   -- ---- transactions
 
   -- The step began the action.
-  pub record Begins (first : Step) (action : Name) (old new : World) : Type 0 where
+  pub record Begins (first : Step) (action : Name) (old new : OwnRun) : Type 0 where
     pub answer : IsAnsweredTo sees old first (answers.Began (action ∷ []))
-    pub after : new ≡ world_after old first (answers.Began (action ∷ []))
+    pub after : new ≡ own_after old first (answers.Began (action ∷ []))
 
   -- A call of this guardian began a subaction of the action, which has committed.
-  pub record CommitsCall (a : Name) (g : ℕ) (old new : World) : Type 0 where
+  pub record CommitsCall (a : Name) (g : ℕ) (old new : OwnRun) : Type 0 where
     pub sub : Name
-    pub begun : World
+    pub begun : OwnRun
     pub begins : Begins (steps.Call a g) sub old begun
     pub committed : is_committed sub new.past ≡ true
 
   -- The step began the top action of a transaction, which ended so. If a step came to nothing, the reason is kept: of
   -- one of its own or of one before.
-  pub record IsTransacted {T E : Type 0} (first : Step) (old new : World) (outcome : Outcome T E)
+  pub record IsTransacted {T E : Type 0} (first : Step) (old new : OwnRun) (outcome : Outcome T E)
       (was is : Option CallFault) : Type 0 where
     pub top : Name
-    pub begun : World
+    pub begun : OwnRun
     pub begins : Begins first top old begun
     -- the run goes on by steps of this transaction alone, and of top actions that began in it
     pub tops : List Name
@@ -310,7 +312,7 @@ module _ (sees : Sees) where
         → is_ended b new.past ≡ is_ended b old.past
 
   -- The top action did not begin, for this reason, and nothing has happened.
-  pub record IsUnbegun {T E : Type 0} (first : Step) (old new : World) (outcome : Outcome T E)
+  pub record IsUnbegun {T E : Type 0} (first : Step) (old new : OwnRun) (outcome : Outcome T E)
       (was is : Option CallFault) : Type 0 where
     pub fault : CallFault
     pub aborted : outcome ≡ Aborted (ByStep fault)
@@ -318,20 +320,20 @@ module _ (sees : Sees) where
     pub same : new ≡ old
     pub none : is ≡ was
 
-  abbrev pub Transacts : {T E : Type 0} → Step → World → World → Outcome T E → Option CallFault
+  abbrev pub Transacts : {T E : Type 0} → Step → OwnRun → OwnRun → Outcome T E → Option CallFault
       → Option CallFault → Type 0
   Transacts first old new outcome was is = ∥ IsUnbegun first old new outcome was is
       ⊎ IsTransacted first old new outcome was is ∥₁
 
   -- a transaction of its own, at this home
-  abbrev pub TransactsAt : {T E : Type 0} → ℕ → World → World → Transacted T E → Type 0
+  abbrev pub TransactsAt : {T E : Type 0} → ℕ → OwnRun → OwnRun → Transacted T E → Type 0
   TransactsAt home old new ended =
       Transacts (steps.Top home) old new ended.outcome None ended.left
 
   -- Work in a top action that has begun, and its end.
-  pub record RunsTop {T E : Type 0} (at : Place) (old new : World)
+  pub record RunsTop {T E : Type 0} (at : Place) (old new : OwnRun)
       (ended : Transacted T E) : Type 0 where
-    pub worked : World
+    pub worked : OwnRun
     pub guardians : List ℕ
     pub mid : Option CallFault
     pub works : Works at.action old worked at.left mid
@@ -345,6 +347,6 @@ module _ (sees : Sees) where
 
 -- what it does is that its steps are made one after another, as a history goes on
 abbrev pub GoesByItself : Type 0
-GoesByItself = (mine : Step → Bool) (old new : World) → Goes SeesOwn mine old new
+GoesByItself = (mine : Step → Bool) (old new : OwnRun) → Goes SeesOwn mine old new
     → (made : List Step) × (list_all mine made ≡ true)
     × (new.past ≡ history_from (opening_in old.lists) old.past made)

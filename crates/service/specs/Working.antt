@@ -4,8 +4,7 @@ use Rattle.std.specs.Result.{IsErrAnd, is_ok}
 use Rattle.action_names.specs.Names.{Name}
 use Rattle.run_model.specs.declared.step.Step.{Step}
 use Rattle.run_model.specs.declared.step.Step.TheVariants as steps
-use Rattle.run_model.specs.Runs.{World}
-use Rattle.stepping.specs.Beside.{Sees}
+use Rattle.stepping.specs.Beside.{OwnRun, Sees}
 use Rattle.service.specs.Calling.{ComesToNothing}
 use Rattle.service.specs.Transacting.{Begins, Goes, ends_top, finishes}
 use Rattle.service.specs.declared.fault.CallFault.{CallFault}
@@ -15,7 +14,7 @@ use Rattle.service.specs.declared.outcome.Outcome.TheVariants.{Aborted, Committe
 
 -- That work of this type, at a run, gives a result with this value or error, and how it and the run are then.
 abbrev pub Does : Type 0 → Type 0 → Type 0 → Type 1
-Does J T E = J → World → Result T E → J → World → Type 0
+Does J T E = J → OwnRun → Result T E → J → OwnRun → Type 0
 
 -- where nothing is stated of it
 abbrev pub Anything : {J T E : Type 0} → Does J T E
@@ -38,22 +37,22 @@ IsOutcomeOf done (Aborted (ByStep fault)) = is_ok done ≡ true
 
 module _ {J T E : Type 0} (sees : Sees) (does : Does J T E) where
   -- The work ran once, and gave this. Then came steps of this kind, and no other.
-  pub record RunsOnce (ends : Step → Bool) (begun new : World) (before after : J)
+  pub record RunsOnce (ends : Step → Bool) (begun new : OwnRun) (before after : J)
       (done : Result T E) : Type 0 where
-    pub worked : World
+    pub worked : OwnRun
     pub ran : does before begun done after worked
     pub ended : Goes sees ends worked new
 
   -- This step began an action, and the work ran once in it.
-  pub record RunsIn (first : Step) (ends : Name → Step → Bool) (old new : World)
+  pub record RunsIn (first : Step) (ends : Name → Step → Bool) (old new : OwnRun)
       (before after : J) (done : Result T E) : Type 0 where
     pub action : Name
-    pub begun : World
+    pub begun : OwnRun
     pub begins : Begins sees first action old begun
     pub runs : RunsOnce (ends action) begun new before after done
 
   -- the work of a transaction that ended so ran once in its top action; or this did not begin, and the work is as it was
-  abbrev pub TransactsOnce : Step → World → World → J → J → Outcome T E → Type 0
+  abbrev pub TransactsOnce : Step → OwnRun → OwnRun → J → J → Outcome T E → Type 0
   TransactsOnce first old new before after outcome =
       ((fault : CallFault) × (outcome ≡ Aborted (ByStep fault)) × (new ≡ old) × (after ≡ before))
       ⊎ ((done : Result T E) × IsOutcomeOf done outcome
@@ -61,7 +60,7 @@ module _ {J T E : Type 0} (sees : Sees) (does : Does J T E) where
 
   -- The work of a call that gave this ran once in its subaction. Or the subaction did not begin, for the reason of which
   -- the error comes, and the work is as it was.
-  abbrev pub CallsOnce : (CallFault → E → Type 0) → Name → ℕ → World → World → J → J
+  abbrev pub CallsOnce : (CallFault → E → Type 0) → Name → ℕ → OwnRun → OwnRun → J → J
       → Result T E → Type 0
   CallsOnce comes a g old new before after result =
       ((fault : CallFault) × IsErrAnd result (comes fault)

@@ -8,11 +8,10 @@ use stepping::MakesOwnSteps;
 
 /// What runs in a thread of its own, and makes its steps by a maker of its own.
 pub trait Arm<W: MakesOwnSteps + Drop> {
-    ghost use Rattle.run_model.specs.Runs.{World};
     ghost use Rattle.service.specs.Arms.{ArmDoes};
 
     /// That it may run from this run on.
-    ghost may_run: { Self → World → Type 0 };
+    ghost may_run: { Self → OwnRun → Type 0 };
 
     /// That it borrows what it borrowed before.
     ghost keeps: { Self → Self → Type 0 };
@@ -30,8 +29,11 @@ pub trait Arm<W: MakesOwnSteps + Drop> {
 
 /// Makes the steps of one caller, and runs arms beside one another.
 pub trait RunsArms: MakesOwnSteps + Drop + Sized {
-    ghost use Rattle.std.specs.Prelude.{◌≡◌, OnErr, OnOk};
+    ghost use Rattle.std.specs.Prelude.{◌≡◌, List, OnErr, OnOk};
+    ghost use Rattle.run_model.specs.declared.history.Event.{Event};
+    ghost use Rattle.stepping.specs.Beside.{started};
     ghost use Rattle.service.specs.Arms.{HaveRun};
+    ghost use Rattle.stepping.specs.Beside.{OwnRun};
 
     /// Runs both arms at once. For each there is a maker of its own, which has the caller's events so far. The caller
     /// has the events of both afterwards. After an error neither has run.
@@ -40,8 +42,10 @@ pub trait RunsArms: MakesOwnSteps + Drop + Sized {
         one: &mut A,
         other: &mut B,
     ) -> Result<(), Fault>
-        requires one { A.may_run one.old (Self.run self.old) }
-        requires other { B.may_run other.old (Self.run self.old) }
+        requires one { (since : List (List Event))
+            → A.may_run one.old (started (Self.run self.old) since) }
+        requires other { (since : List (List Event))
+            → B.may_run other.old (started (Self.run self.old) since) }
         ensures run { OnOk result (HaveRun Self.sees A.does B.does (Self.run self.old)
             (Self.run self.new) one.old one.new other.old other.new) }
         ensures one_keeps { A.keeps one.old one.new }
