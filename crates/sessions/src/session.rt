@@ -6,33 +6,35 @@ ghost use Rattle.run_model.specs.declared.step.Step.TheVariants.{Op as Operation
 ghost use Rattle.layer_contracts.specs.Stores.{fault_in};
 ghost use Rattle.runtime.specs.Answering.{IsAnsweredFrom};
 ghost use Rattle.runtime.specs.Faults.{fault_told};
-ghost use Rattle.runtime.specs.Receipts.{IsKept, events_of};
-ghost use Rattle.sessions.specs.Sessions.{AreIn, IsLastFault, IsLastSeen};
+ghost use Rattle.runtime.specs.Receipts.{IsKept};
+ghost use Rattle.sessions.specs.Sessions.{AreInOrder, IsLastFault, IsLastSeen};
 ghost use Rattle.stepping.specs.Beside.{is_waits};
 
 use layer_contracts::{Forest, Guardian};
 use run_model::{Answer, Name, ObjectId, Op, Opening, Step};
-use runtime::{Answered, Gate, OfRun, Patience, Receipts, Runtime, Seen, StepFault};
+use runtime::{Answered, Gate, Known, OfRun, Patience, Receipts, Runtime, Seen, StepFault};
 use std::sync::Wait;
 use stepping::{Fault, MakesOwnSteps};
 
 /// Makes the steps of one thread, each behind the one before, and keeps the receipts of its events. Contracts see the
-/// opening and these events.
+/// opening and these events. The session of an arm begins with the events that its starter had by then.
 ///
 /// An operation that waits for other actions sleeps until the patience is over.
 #[derive(Drop)]
 pub struct Session<'a, K: OfRun, R: Forest, G: Guardian, P: Gate, U: Patience, H> {
-    rt: &'a H,
-    runtime: &'a Runtime<K, R, G, P>,
-    opening: &'a Opening,
-    patience: &'a U,
-    receipts: Receipts<K>,
+    pub(crate) rt: &'a H,
+    pub(crate) runtime: &'a Runtime<K, R, G, P>,
+    pub(crate) opening: &'a Opening,
+    pub(crate) patience: &'a U,
+    pub(crate) receipts: Receipts<K>,
+    /// The events that its starter had, if it is the session of an arm.
+    pub(crate) since: Known<K>,
     /// What was seen of the run once a step was answered, if one was.
-    last_seen: Option<Seen<K>>,
+    pub(crate) last_seen: Option<Seen<K>>,
     /// Why the last step failed, if it did.
-    last_fault: Option<StepFault>,
-    ghost same: { opening_in opening.now ≡ K.opening },
-    ghost nested: { ∥ AreIn (events_of receipts) last_seen ∥₁ },
+    pub(crate) last_fault: Option<StepFault>,
+    pub(crate) ghost same: { opening_in opening.now ≡ K.opening },
+    pub(crate) ghost ordered: { ∥ AreInOrder K.opening since receipts last_seen ∥₁ },
 }
 
 impl<'a, K: OfRun, R: Forest, G: Guardian, P: Gate, U: Patience, H: Wait> Session<
@@ -54,6 +56,7 @@ impl<'a, K: OfRun, R: Forest, G: Guardian, P: Gate, U: Patience, H: Wait> Sessio
         requires { opening_in opening.now ≡ K.opening }
         ensures opening { result.opening.now ≡ opening.now }
         ensures none { result.receipts ≡ [] }
+        ensures first { result.since ≡ [] }
         ensures unseen { result.last_seen ≡ None }
         ensures no_fault { result.last_fault ≡ None }
     {
@@ -63,12 +66,13 @@ impl<'a, K: OfRun, R: Forest, G: Guardian, P: Gate, U: Patience, H: Wait> Sessio
             opening,
             patience,
             receipts: runtime.no_receipts(),
+            since: runtime.nothing_known(),
             last_seen: None,
             last_fault: None,
         }
     }
 
-    /// The receipts of its events, in the order in which they came.
+    /// The receipts of its events, those of its arms too.
     pub fn into_receipts(self) -> Receipts<K>
         ensures { result ≡ self.entry.receipts }
     {
@@ -88,6 +92,7 @@ impl<'a, K: OfRun, R: Forest, G: Guardian, P: Gate, U: Patience, H: Wait> Sessio
         ensures answered { IfOk result (λ a. IsAnsweredFrom K.opening self.old.last_seen step.now
             a.answer a.receipt a.seen) }
         ensures seen { self.new.last_seen ≡ self.old.last_seen }
+        ensures since { self.new.since ≡ self.old.since }
         ensures receipts { self.new.receipts ≡ self.old.receipts }
         ensures opening { self.new.opening.now ≡ self.old.opening.now }
     {
@@ -108,6 +113,7 @@ impl<'a, K: OfRun, R: Forest, G: Guardian, P: Gate, U: Patience, H: Wait> Sessio
             (Operation action.now object operation.now) a.answer a.receipt a.seen) }
         ensures waits { IfOk result (λ a. is_waits a.answer ≡ true → U.over) }
         ensures seen { self.new.last_seen ≡ self.old.last_seen }
+        ensures since { self.new.since ≡ self.old.since }
         ensures receipts { self.new.receipts ≡ self.old.receipts }
         ensures opening { self.new.opening.now ≡ self.old.opening.now }
     {
@@ -126,6 +132,7 @@ impl<'a, K: OfRun, R: Forest, G: Guardian, P: Gate, U: Patience, H: Wait> Sessio
     fn keep(&mut self, answered: Result<Answered<K>, StepFault>) -> Result<Answer, Fault>
         requires behind { (step : Step) × IfOk answered (λ a. IsAnsweredFrom K.opening
             self.old.last_seen step a.answer a.receipt a.seen) }
+        ensures since { self.new.since ≡ self.old.since }
         ensures kept { IsKept answered result self.old.receipts self.new.receipts }
         ensures seen { IsLastSeen answered self.old.last_seen self.new.last_seen }
         ensures fault { IsLastFault (fault_in result) self.new.last_fault }
@@ -139,7 +146,7 @@ impl<'a, K: OfRun, R: Forest, G: Guardian, P: Gate, U: Patience, H: Wait> Sessio
                     seen,
                 } = answered;
                 if let Some(receipt) = receipt {
-                    self.runtime.add_receipt(&mut self.receipts, receipt);
+                    self.runtime.keep(&mut self.receipts, receipt);
                 }
                 self.last_seen = Some(seen);
                 self.last_fault = None;
@@ -168,7 +175,7 @@ impl<'a, K: OfRun, R: Forest, G: Guardian, P: Gate, U: Patience, H: Wait> MakesO
     for Session<'a, K, R, G, P, U, H> {
     ghost use Rattle.sessions.specs.Sessions.{IsLastFault, run_of};
 
-    ghost run = { λ s. run_of s.opening.now s.receipts };
+    ghost run = { λ s. run_of s.opening.now s.since s.receipts s.last_seen };
 
     ghost sees = { λ own seen. Unit {0} };
 

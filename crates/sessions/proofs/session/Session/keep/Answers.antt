@@ -1,6 +1,6 @@
 use Rattle.std.proofs.Common.{IfOk, subst}
 use Rattle.runtime.specs.Answering.{IsAnsweredFrom}
-use Rattle.sessions.proofs.Nested.{nested_then}
+use Rattle.sessions.proofs.Stepped.{ordered_then}
 use Rattle.sessions.proofs.session.Session.keep.Goals as goal
 
 pub invariant_of-self : goal.invariant_of-self
@@ -11,6 +11,6 @@ invariant_of-self g c =
     let given = subst (λ r. IfOk r (λ a. IsAnsweredFrom g.K.OfRun.opening old.last_seen step a.answer a.receipt a.seen)) c.in-Ok.is c.requires.behind.1 in
     record {
       same = old.same;
-      nested = nested_then g.K.OfRun.opening old.receipts old.last_seen step a.answer a.receipt a.seen old.nested given c.keep_receipt.new.receipts
-          c.keep_receipt.ensures;
+      ordered = ordered_then g.K.OfRun.opening old.since old.receipts old.last_seen step a.answer a.receipt a.seen old.ordered given
+          c.keep.new.self.receipts c.keep.ensures;
     }
