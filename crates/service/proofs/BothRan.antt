@@ -1,5 +1,5 @@
 -- Two arms that ran at once and ended, as the action's transaction sees them.
-use Rattle.std.proofs.Common.{None, Option, Result, Some, subst, true, ℕ, ◌≡◌}
+use Rattle.std.proofs.Common.{None, Option, Result, subst, true, ℕ, ◌≡◌}
 use mathlib.Core.Bool.{Bool-set}
 use Rattle.std.proofs.Math.Logic.{∥∥₁_elim, ∥∥₁_map, ∥∥₁_prop}
 use Rattle.std.specs.Option.{option_or}

@@ -1,5 +1,5 @@
 -- Arms that ended, as work of their action, and which of its children have committed then.
-use Rattle.std.proofs.Common.{Bool, Err, None, Ok, OnErr, Option, Result, ap, false, inl, inr, refl, subst, sym, true, ℕ, ◌∙◌, ◌∷◌, [], ◌≡◌}
+use Rattle.std.proofs.Common.{Bool, Err, None, Ok, OnErr, Option, Result, ap, false, inl, inr, refl, subst, sym, true, ◌∙◌, ◌∷◌, [], ◌≡◌}
 use mathlib.Core.Bool.{Bool-set}
 use Rattle.std.proofs.Math.Logic.{∥∥₁_elim, ∥∥₁_map}
 use Rattle.std.proofs.lemmas.Bool.{and_parts, false_from_ne_true, not-true, or_left, or_right}
@@ -7,7 +7,6 @@ use Rattle.std.specs.Prelude.{OnOk}
 use Rattle.std.specs.Result.{is_ok}
 use Rattle.action_names.specs.Names.{Name, has_name, is_prefix, parent_of, same_name}
 use Rattle.run_model.specs.declared.answer.Answer.TheVariants as answers
-use Rattle.run_model.specs.declared.step.Step.{Step}
 use Rattle.run_model.specs.declared.step.Step.TheVariants as steps
 use Rattle.run_model.specs.Actions.{is_begun, is_committed, step_commits}
 use Rattle.run_laws.proofs.Growth.{Follows, committed_stays, here}

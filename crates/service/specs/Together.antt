@@ -1,5 +1,5 @@
 -- Two arms of an action, in each of which work ran, at once.
-use Rattle.std.specs.Prelude.{◌≡◌, ◌⊎◌, ◌+◌, ◌≤◌, ℕ, Bool, true, false, ◌||◌, [], ◌∷◌, Option, Some, Result, Ok, OnErr, OnOk, vec_capacity, vec_len}
+use Rattle.std.specs.Prelude.{◌≡◌, ◌⊎◌, ◌+◌, ◌≤◌, ℕ, Bool, true, false, ◌||◌, [], ◌∷◌, Option, Some, Result, OnErr, OnOk, vec_capacity, vec_len}
 use Rattle.std.specs.Result.{is_ok}
 use Rattle.std.specs.declared.vec.Vec.{Vec}
 use Rattle.action_names.specs.Names.{Name, is_prefix, parent_of, same_name}
@@ -13,7 +13,7 @@ use Rattle.layer_contracts.specs.declared.guardian.Fault.{Fault}
 use Rattle.stepping.specs.Beside.{IsAnsweredTo, OwnRun, Sees, own_after, started}
 use Rattle.service.specs.Arms.{AreJoined}
 use Rattle.service.specs.Calling.{ComesToNothing}
-use Rattle.service.specs.Transacting.{Began, CommitsNoChild, EndedAndTold, Goes, Includes, Settles, Works, began_at, finishes, settles}
+use Rattle.service.specs.Transacting.{Began, EndedAndTold, Goes, Includes, Settles, Works, finishes, settles}
 use Rattle.service.specs.Working.{Does, IsResultOf}
 use Rattle.service.specs.declared.fault.CallFault.{CallFault}
 use Rattle.service.specs.declared.fault.CallFault.TheVariants.{Failed}
