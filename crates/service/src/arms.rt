@@ -23,7 +23,8 @@ pub trait Arm<W: MakesOwnSteps + Drop> {
     fn run(&mut self, service: &mut Service<W>)
         requires { may_run self.old (W.run service.old.world) }
         ensures keeps { keeps self.old self.new }
-        ensures goes { ∥ Goes W.sees any_step (W.run service.old.world) (W.run service.new.world) ∥₁ }
+        ensures goes { ∥ Goes W.sees any_step (W.run service.old.world)
+            (W.run service.new.world) ∥₁ }
         ensures does { does self.old (W.run service.old.world) self.new (W.run service.new.world) };
 }
 

@@ -1,4 +1,3 @@
-use Rattle.run_model.specs.declared.step.Step.TheVariants as steps
 use Rattle.service.specs.Transacting.{EndedAndTold, finishes, settles}
 use Rattle.service.proofs.Going.{settles_finishes, settles_wider}
 use Rattle.service.proofs.together.commit_if.Goals as goal
