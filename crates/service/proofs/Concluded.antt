@@ -4,7 +4,7 @@ use Rattle.std.proofs.lemmas.Bool.{and_from, and_parts, false_from_ne_true, fals
 use Rattle.std.proofs.lemmas.List.{append-nil}
 use Rattle.std.specs.List.{list_all, list_any}
 use Rattle.std.specs.Option.{option_or}
-use Rattle.std.specs.Result.{IsErrAnd, result_err}
+use Rattle.std.specs.Result.{result_err}
 use Rattle.std.specs.Prelude.{if◌then◌else◌}
 use Rattle.action_names.specs.Names.{Name, same_name}
 use Rattle.run_model.specs.declared.answer.Answer.{Answer}
@@ -22,7 +22,6 @@ use Rattle.stepping.specs.Beside.{OwnRun, Sees}
 use Rattle.stepping.specs.Stepping.{Leaves}
 use Rattle.service.specs.Calling.{IsCall, IsDone, IsReply, IsVote, Told}
 use Rattle.service.specs.Ending.{AreCutShort, ArePolled, HasHappened, HaveHappened, prepares}
-use Rattle.service.specs.Outcomes.{is_decided}
 use Rattle.service.specs.Transacting.{AllTold, AllVoted, CameToNothing, Concludes, EndedAndTold, EndsTop, FallsShort, Goes, Includes, NoneBegan, Settles, Works, by_itself, ends_top, finishes, has_number, is_concluding, is_settling, is_voted_down, settles, votes_no, works_in}
 use Rattle.service.specs.declared.fault.CallFault.{CallFault}
 use Rattle.service.proofs.Shapes.{answer_fits}
@@ -42,11 +41,6 @@ told_quiet x answer h = ap names_begun h
 pub vote_quiet : (x : Bool) (answer : Answer) → IsVote x answer → names_begun answer ≡ []
 vote_quiet true answer h = ap names_begun h
 vote_quiet false answer h = ap names_begun h
-
--- an error is no decision
-pub decided_err : (r : Result Bool CallFault) (fault : CallFault) → IsErrAnd r (λ x. x ≡ fault) → is_decided r ≡ false
-decided_err (Ok x) fault h = absurd h
-decided_err (Err x) fault h = refl
 
 -- ---- numbers
 

@@ -162,7 +162,7 @@ module _ {M : Type 0} (run : M → OwnRun) (sees : Sees) (leaves : Leaves M) whe
     next_taken : take (i + 1) guardians ≡ take i guardians ++ x ∷ []
     next_taken = take_more guardians i 0 within ∙ ap (λ y. take i guardians ++ y ∷ []) (sym same)
 
-    pub in_parts : guardians ≡ take (i + 1) guardians ++ drop (i + 1) guardians
+    in_parts : guardians ≡ take (i + 1) guardians ++ drop (i + 1) guardians
     in_parts = sym (take-append-drop (i + 1) guardians)
 
     next_mapped : map f (take (i + 1) guardians) ≡ map f (take i guardians) ++ f x ∷ []
@@ -186,34 +186,6 @@ module _ {M : Type 0} (run : M → OwnRun) (sees : Sees) (leaves : Leaves M) whe
     cut_here old mid new fault so_far cut =
         subst (λ xs. AreCutShort run sees leaves xs old new fault) (sym mapped_parts)
         (cut_within (map f (take i guardians)) (f x ∷ []) (map f (drop (i + 1) guardians)) old mid new fault so_far cut)
-
-  -- the vote of this guardian is no
-  pub polled_no : (top : Name) (guardians : List ℕ) (i : ℕ) → i < length guardians → (x : ℕ) → x ≡ get_or guardians i 0 → (old mid new : M) (said : Bool)
-      → said ≡ false → HaveHappened run sees leaves (prepares top (take i guardians)) old mid → IsCall run sees leaves (steps.Prepare x top) IsVote mid new (Ok said)
-      → ArePolled run sees leaves top guardians false old new
-  polled_no top guardians i within x same old mid new said is_no so_far call = record {
-    polled = take (i + 1) guardians;
-    rest = drop (i + 1) guardians;
-    parts = in_parts (λ g. steps.Prepare g top) guardians i within x same;
-    all = λ h. absurd (false≢true h);
-    happened =
-        one_more (λ g. steps.Prepare g top) guardians i within x same old mid new so_far
-        (call_happened (steps.Prepare x top) IsVote mid new said call (vote_happens said));
-    no = λ _. (
-      take i guardians,
-      x,
-      next_taken (λ g. steps.Prepare g top) guardians i within x same,
-      record {
-        mid = mid;
-        voted = new;
-        happened = so_far;
-        no =
-            subst (λ a. IsMadeWith run sees leaves (steps.Prepare x top) a mid new)
-            (subst (λ y. IsVote y call.gives.answer) is_no call.gives.shows) call.gives.made;
-        rest = refl;
-      },
-    );
-  }
 
   pub polled_yes : (top : Name) (guardians : List ℕ) (old new : M) → HaveHappened run sees leaves (prepares top guardians) old new
       → ArePolled run sees leaves top guardians true old new

@@ -14,6 +14,7 @@ pub mod Joined
 pub mod Numbers
 pub mod Others
 pub mod Parts
+pub mod Phases
 pub mod Shapes
 pub mod Undone
 pub mod Whole

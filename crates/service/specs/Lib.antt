@@ -6,4 +6,5 @@ pub mod Outcomes
 pub mod Retrying
 pub mod Together
 pub mod Transacting
+pub mod Trying
 pub mod Working

@@ -19,6 +19,7 @@ mod together;
 mod top;
 mod transacting;
 mod transaction;
+mod two_phases;
 
 pub use arms::{Arm, RunsArms};
 pub use fault::CallFault;

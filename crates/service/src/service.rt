@@ -3,6 +3,7 @@ use crate::answered::{began_one, began_these, reply, taken, told, vote};
 use crate::fault::CallFault;
 use action_names::{Name, Names};
 use atomic_types::{Op, Reply};
+use committing::commit_by_two_phases;
 use run_model::{Answer, ArmKinds, ObjectId, Step};
 use stepping::MakesOwnSteps;
 
@@ -14,9 +15,9 @@ pub struct Service<W: MakesOwnSteps + Drop> {
 }
 
 impl<W: MakesOwnSteps + Drop> Service<W> {
-    ghost use Rattle.std.specs.Prelude.{◌≡◌, IfErr, IfOk, OnOk};
+    ghost use Rattle.std.specs.Prelude.{◌≡◌, true, false, IfErr, IfOk, IsOk, OnOk};
     ghost use Rattle.run_model.specs.declared.step.Step.TheVariants as steps;
-    ghost use Rattle.service.specs.Ending.{AreCutShort, ArePolled, HaveHappened, IsEnded, IsEndingCut, prepares, tells, verdict};
+    ghost use Rattle.service.specs.Ending.{AreCutShort, HaveHappened, IsEnded, IsEndingCut, tells};
     ghost use Rattle.service.specs.Calling.{BeganOne, BeganThese, IsAccepted, IsCall, IsDone, IsFinishing, IsReply, IsVote, Told, WaitsIf};
 
     /// Calls over this maker of steps.
@@ -149,38 +150,22 @@ impl<W: MakesOwnSteps + Drop> Service<W> {
         ensures cut { IfErr result (IsEndingCut W.run W.sees W.leaves top.now participants.now
             self.old.world self.new.world) }
     {
-        self.close(top)?;
-        let committed = self.poll(top, participants)?;
-        self.conclude(top, committed)?;
+        let committed = commit_by_two_phases(self, top, participants.iter())?;
+        self.abort_unless(committed, top)?;
         self.tell_all(participants, top)?;
         Ok(committed)
     }
 
-    /// Decides a top action on which all participants voted yes, or aborts it.
-    fn conclude(&mut self, top: &Name, has_all_votes: bool) -> Result<(), CallFault>
-        ensures { IsCall W.run W.sees W.leaves (verdict has_all_votes top.now) IsDone
-            self.old.world self.new.world result }
+    /// Aborts a top action unless it has committed.
+    fn abort_unless(&mut self, committed: bool, top: &Name) -> Result<(), CallFault>
+        ensures aborts { committed ≡ false → IsCall W.run W.sees W.leaves (steps.Abort top.now)
+            IsDone self.old.world self.new.world result }
+        ensures rests { committed ≡ true → IsOk result × (self.new.world ≡ self.old.world) }
     {
-        if has_all_votes {
-            self.decide(top)
-        } else {
-            self.abort(top)
+        if !committed {
+            self.abort(top)?;
         }
-    }
-
-    /// Lets the guardians vote on the top action, in this order, up to the first no. Whether all voted yes.
-    pub(crate) fn poll(&mut self, top: &Name, guardians: &[u32]) -> Result<bool, CallFault>
-        ensures polled { IfOk result (λ yes. ArePolled W.run W.sees W.leaves top.now guardians.now yes
-            self.old.world self.new.world) }
-        ensures cut { IfErr result (AreCutShort W.run W.sees W.leaves (prepares top.now guardians.now)
-            self.old.world self.new.world) }
-    {
-        for guardian in guardians {
-            if !self.prepare(*guardian, top)? {
-                return Ok(false);
-            }
-        }
-        Ok(true)
+        Ok(())
     }
 
     /// Tells each of the guardians how an action ended, in this order.

@@ -11,6 +11,7 @@ use crate::service::Service;
 use crate::top::{begin_top, end_top, outcome};
 use crate::transaction::{Work, work_in};
 use action_names::Name;
+use committing::commit_by_two_phases;
 use std::alloc::Global;
 use std::marker::Brand;
 use stepping::MakesOwnSteps;
@@ -56,12 +57,7 @@ impl<W: MakesOwnSteps + Drop> Service<W> {
         ensures stopped { IfErr result (CameToNothing W.sees (ends_top top.now) is_concluding
             (W.run self.old.world) (W.run self.new.world)) }
     {
-        self.close(top)?;
-        if !self.poll(top, guardians)? {
-            return Ok(false);
-        }
-        self.decide(top)?;
-        Ok(true)
+        commit_by_two_phases(self, top, guardians.iter())
     }
 }
 
