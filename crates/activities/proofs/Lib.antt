@@ -20,4 +20,5 @@ pub mod Runs
 pub mod Staying
 pub mod Steps
 pub mod Trying
+pub mod TwoPhases
 pub mod Waiting

@@ -1,5 +1,5 @@
 -- The steps of one activity, and how they compose.
-use Rattle.std.proofs.Common.{inl, inr, Bool, Bor, Err, IfOk, IsTrue, List, Ok, OnErr, OnOk, Result, [], ap, append_assoc, false, map, refl, reverse, subst, sym, true, ◌++◌, ◌∙◌, ◌∷◌, ◌≡◌, ◌⊎◌}
+use Rattle.std.proofs.Common.{inl, inr, Bool, Bor, Err, IfOk, IsTrue, List, Ok, OnErr, Result, [], ap, append_assoc, false, map, refl, reverse, subst, sym, true, ◌++◌, ◌∙◌, ◌∷◌, ◌≡◌, ◌⊎◌}
 use Rattle.std.proofs.lemmas.Bool.{false≢true, or_cases, or_left, or_right}
 use Rattle.std.proofs.lemmas.List.{map-append}
 use Rattle.action_names.specs.Names.{Name, has_name, same_name}
@@ -365,10 +365,6 @@ if_ok_with P (Err e) f = tt
 pub if_ok_at_all : {X E A : Type 0} (P : X → Type 0) (r : Result X E) → IfOk r (λ x. A → P x) → A → IfOk r P
 if_ok_at_all P (Ok x) f a = f a
 if_ok_at_all P (Err e) f a = tt
-
-pub ok_at : {X E A : Type 0} (P : Type 0) (r : Result X E) → OnOk r (A → P) → A → OnOk r P
-ok_at P (Ok x) f a = f a
-ok_at P (Err e) f a = tt
 
 -- ---- rules
 

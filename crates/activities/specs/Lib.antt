@@ -11,3 +11,4 @@ pub mod Acting
 pub mod Runs
 pub mod Apart
 pub mod Failing
+pub mod TopSteps

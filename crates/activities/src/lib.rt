@@ -16,6 +16,7 @@ mod laws;
 mod open_action;
 mod operations;
 mod serial;
+mod top_steps;
 
 pub use activity_steps::ActivitySteps;
 pub use apart::{BegunArm, EndedArm, run_arm};

@@ -16,12 +16,15 @@ ghost use Rattle.activities.specs.Serial.{committed, end_tried, ended, joined, o
 ghost use Rattle.activities.specs.Serial.{taken_in, two_phases};
 ghost use Rattle.activities.specs.Acting.{acting};
 ghost use Rattle.activities.specs.Bodies.{is_sub};
+ghost use Rattle.activities.specs.TopSteps.{ComesTo};
 
 use crate::abortable::Abortable;
 use crate::activity_steps::ActivitySteps;
 use crate::flow::{Flow, Reach};
+use crate::top_steps::TopSteps;
 use action_names::{Name, Names};
 use atomic_types::Op;
+use committing::commit_by_two_phases;
 use run_model::{Answer, ObjectId, Refusal, Step};
 use script_model::Arm;
 use std::alloc::{AllocError, Global};
@@ -346,15 +349,17 @@ impl OpenAction {
         ensures over { EndOrFail W.alone W.fails []
             (W.run world.old) (W.run world.new) }
     {
-        if !try_step(world, Step::Close(self.name.copy()?))? {
-            return Ok(false);
-        }
-        for guardian in &self.reached.participants {
-            if !prepare(world, *guardian, &self.name)? {
-                return Ok(false);
-            }
-        }
-        try_step(world, Step::Decide(self.name.copy()?))
+        let mut steps = TopSteps { world };
+        self.commit_with(&mut steps)
+    }
+
+    /// Commits it by two phases, with these steps.
+    fn commit_with<W: ActivitySteps>(&self, steps: &mut TopSteps<'_, W>) -> Result<bool, Fault>
+        ensures same_world { steps.new.world.ghost_name ≡ steps.old.world.ghost_name }
+        ensures comes { ComesTo W.alone W.fails self.now.name (two_phases (acting self.now)) result
+            (W.run steps.old.world.now) (W.run steps.new.world.now) }
+    {
+        commit_by_two_phases(steps, self.name.as_name(), self.reached.participants.iter())
     }
 
     /// Aborts it, and tells so.
@@ -448,7 +453,11 @@ pub(crate) fn begun_by(answer: Answer) -> Option<Name>
 }
 
 /// Asks a guardian for its vote on a top action; whether that is yes.
-fn prepare<W: ActivitySteps>(world: &mut W, guardian: u32, top: &Abortable) -> Result<bool, Fault>
+pub(crate) fn prepare<W: ActivitySteps>(
+    world: &mut W,
+    guardian: u32,
+    top: &Name,
+) -> Result<bool, Fault>
     ensures makes { Makes (top.now ∷ []) [] (W.run world.old) (W.run world.new) }
     ensures after { OnOk result (W.alone
         → W.run world.new ≡ after (Prepare guardian top.now) (W.run world.old)) }
@@ -476,7 +485,7 @@ fn try_abort<W: ActivitySteps>(world: &mut W, action: &Abortable) -> Result<(), 
 }
 
 /// Makes a step; whether it was done.
-fn try_step<W: ActivitySteps>(world: &mut W, step: Step) -> Result<bool, Fault>
+pub(crate) fn try_step<W: ActivitySteps>(world: &mut W, step: Step) -> Result<bool, Fault>
     requires step { IsOfAction step }
     ensures makes { Makes (about step) (commits_of step) (W.run world.old) (W.run world.new) }
     ensures told { IfOk result (λ done. (a : Name) → about step ≡ a ∷ [] → commits_of step ≡ a ∷ []
