@@ -9,16 +9,22 @@ ghost use Rattle.world_steps.specs.Standings.{IsWorld};
 ghost use Rattle.world.specs.Worlds.{seen_of};
 
 use crate::runs::{Parts, Threaded, end, opened, setup_of};
+use guardian::Guardian;
+use registry::Registry;
 use rows::RowFault;
 use run_model::{ObjectId, Op, Opening, Reply, Value};
 use runtime::{Endless, OfRun, OpenGate, Receipts};
-use service::{Begun, CallFault, Cause, Outcome, Service, Transacted, Transaction, Work};
+use service::{Begun, CallFault, Cause, Outcome, RunsArms, Service, Transacted, Transaction, Work};
 use sessions::Session;
+use stable_store::PlainStable;
 use std::alloc::Global;
 use std::marker::Brand;
 use std::sync::Wait;
 use std::thread::{Threads, map_indices};
 use stepping::MakesOwnSteps;
+
+/// The session of a thread that moves coins.
+type Moving<'a, K, H> = Session<'a, K, Registry, Guardian<PlainStable>, OpenGate, Endless, H>;
 
 /// How many guardians there are. Each has a purse.
 const PURSES: u32 = 4;
@@ -35,11 +41,21 @@ const THREADS: usize = 4;
 /// How many coins each thread moves.
 const MOVES: u32 = 50;
 
+/// How many pairs of purses there are. Coins that go by two arms at once stay within a pair: then no two transactions
+/// wait for one another.
+const PAIRS: usize = 2;
+
 /// A coin goes from the purse of one guardian to that of another.
 #[derive(Clone, Copy)]
 struct Move {
     from: u32,
     to: u32,
+}
+
+/// A coin goes as well, but it is taken and put by two arms at once.
+struct MoveAtOnce {
+    alloc: Global,
+    coin: Move,
 }
 
 /// What a guardian does with its purse.
@@ -48,6 +64,10 @@ enum Change {
     Take(u32),
     Put(u32),
 }
+
+/// A call of the guardian that is to change its purse.
+#[derive(Clone, Copy)]
+struct Calls(Change);
 
 /// How many coins are in the purse of a guardian.
 #[derive(Clone, Copy)]
@@ -82,6 +102,33 @@ impl<W: MakesOwnSteps + Drop> Work<W> for Move {
             tx.call(self.to, &mut put)?;
             tx.call(self.from, &mut take)
         }
+    }
+}
+
+impl<W: RunsArms> Work<W> for MoveAtOnce {
+    type Value = ();
+
+    type Error = MoveFault;
+
+    fn run<B: Begun>(&mut self, tx: &mut Transaction<'_, W, B>) -> Result<(), MoveFault> {
+        let mut take = Calls(Change::Take(self.coin.from));
+        let mut put = Calls(Change::Put(self.coin.to));
+        let (taken, put) = tx.together(self.alloc, &mut take, &mut put)?;
+        taken?;
+        put
+    }
+}
+
+impl<W: MakesOwnSteps + Drop> Work<W> for Calls {
+    type Value = ();
+
+    type Error = MoveFault;
+
+    fn run<B: Begun>(&mut self, tx: &mut Transaction<'_, W, B>) -> Result<(), MoveFault> {
+        let guardian = match self.0 {
+            Change::Take(guardian) | Change::Put(guardian) => guardian,
+        };
+        tx.call(guardian, &mut self.0)
     }
 }
 
@@ -178,6 +225,18 @@ fn moved_and_counted<K: OfRun + Send + Sync, H: Threads + Wait + Sync>(
     for one in moved {
         runtime.join_receipts(receipts, one?);
     }
+    let moved = map_indices(
+        rt,
+        alloc,
+        PAIRS,
+        &|index|
+            requires opening { opening_in opening.now ≡ K.opening }
+            requires few { index < 2 ^ 31 }
+        { move_in_pair(alloc, rt, runtime, opening, index as u32) },
+    )?;
+    for one in moved {
+        runtime.join_receipts(receipts, one?);
+    }
     count_all(alloc, rt, runtime, opening, receipts)
 }
 
@@ -200,12 +259,47 @@ fn move_all<K: OfRun, H: Wait>(
             to: to + 1,
         };
         let Transacted { outcome, left: _ } = service.transact(alloc, from + 1, &mut coin);
-        match outcome {
-            Outcome::Committed(()) | Outcome::Aborted(Cause::Work(MoveFault::Empty)) => {}
-            Outcome::Aborted(_) => return Err(RowFault::Unread),
-        }
+        settle(outcome)?;
     }
     Ok(service.world.into_receipts())
+}
+
+/// What one thread moves between the purses of a pair, each coin by two arms at once; its receipts.
+fn move_in_pair<K: OfRun + Send + Sync, H: Threads + Wait + Sync>(
+    alloc: Global,
+    rt: &H,
+    runtime: &Threaded<K, OpenGate>,
+    opening: &Opening,
+    pair: u32,
+) -> Result<Receipts<K>, RowFault>
+    requires opening { opening_in opening.now ≡ K.opening }
+    requires few { pair < 2 ^ 31 }
+{
+    let mut service = Service::over(Session::new(rt, runtime, opening, &Endless));
+    let first = (2 * pair).wrapping_add(1);
+    let second = first.wrapping_add(1);
+    for turn in 0..MOVES {
+        let (from, to) = if turn % 2 == 0 {
+            (first, second)
+        } else {
+            (second, first)
+        };
+        let mut coin = MoveAtOnce {
+            alloc,
+            coin: Move { from, to },
+        };
+        let Transacted { outcome, left: _ } = service.transact(alloc, from, &mut coin);
+        settle(outcome)?;
+    }
+    Ok(service.world.into_receipts())
+}
+
+/// Whether the coin went, or there was none.
+fn settle(outcome: Outcome<(), MoveFault>) -> Result<(), RowFault> {
+    match outcome {
+        Outcome::Committed(()) | Outcome::Aborted(Cause::Work(MoveFault::Empty)) => Ok(()),
+        Outcome::Aborted(_) => Err(RowFault::Unread),
+    }
 }
 
 /// How many coins are in all purses. Keeps the receipts.
