@@ -21,7 +21,7 @@ use Rattle.run_model.specs.Votes.{has_voted, step_votes}
 use Rattle.run_laws.proofs.Growth.{Follows, aborted_stays, begun_stays, committed_stays, followed, here, later}
 use Rattle.run_laws.proofs.Names.{clash, eqb_self, has_name_append, same_name_self, same_name_true}
 use Rattle.run_laws.proofs.Begun.{begun_cases, begun_more}
-use Rattle.stepping.specs.Beside.{IsAnsweredTo, OwnRun, Sees, own_after}
+use Rattle.stepping.specs.Beside.{IsAnsweredTo, OwnRun, Sees, own_after, started}
 use Rattle.service.specs.declared.fault.CallFault.{CallFault}
 use Rattle.service.specs.Transacting.{AllBegan, AllSettled, AllVotersTold, AreOwn, Began, CameToNothing, EndedAndTold, FallsShort, Goes, IsSettled, NoneBegan, Settles, Works, by_itself, in_arm, began_at, begins_at, belongs, belongs_to, ends_top, finishes, is_below, settles, works_in, works_with}
 use Rattle.service.proofs.Parts.{begun_is_new}
@@ -451,8 +451,8 @@ module _ {sees : Sees} where
         why = s.why;
         more = goes_then p s.before y z s.more a;
       })
-  short_more p x y z f (in_arm start arm joined first arms inside s both part more) a =
-      in_arm start arm joined first arms inside s both part (goes_then p joined y z more a)
+  short_more p x y z f (in_arm start arm joined since first arms inside s both part more) a =
+      in_arm start arm joined since first arms inside s both part (goes_then p joined y z more a)
 
   pub short_after : {kind : Step → Bool} (p : Step → Bool) (x y z : OwnRun) (f : CallFault) → Goes sees p x y → CameToNothing sees p kind y z f → CameToNothing sees p kind x z f
   short_after p x y z f a (by_itself s) =
@@ -465,8 +465,8 @@ module _ {sees : Sees} where
         why = s.why;
         more = s.more;
       })
-  short_after p x y z f a (in_arm start arm joined first arms inside s both part more) =
-      in_arm start arm joined (goes_then p x y start a first) arms inside s both part more
+  short_after p x y z f a (in_arm start arm joined since first arms inside s both part more) =
+      in_arm start arm joined since (goes_then p x y start a first) arms inside s both part more
 
   pub short_wider : {kind : Step → Bool} (p q : Step → Bool) (x y : OwnRun) (f : CallFault) → ((s : Step) → p s ≡ true → q s ≡ true) → CameToNothing sees p kind x y f
       → CameToNothing sees q kind x y f
@@ -481,9 +481,9 @@ module _ {sees : Sees} where
         why = s.why;
         more = goes_wider p q s.before y w s.more;
       })
-  short_wider p q x y f w (in_arm start arm joined first arms inside s both part more) =
-      in_arm start arm joined (goes_wider p q x start w first) arms (goes_wider p q start arm w inside)
-      (short_wider p q start arm f w s) (goes_wider p q start joined w both) part (goes_wider p q joined y w more)
+  short_wider p q x y f w (in_arm start arm joined since first arms inside s both part more) =
+      in_arm start arm joined since (goes_wider p q x start w first) arms (goes_wider p q (started start since) arm w inside)
+      (short_wider p q (started start since) arm f w s) (goes_wider p q start joined w both) part (goes_wider p q joined y w more)
 
   -- the first fault is kept through two parts
   pub short_then : (p : Step → Bool) (x y z : OwnRun) (was mid is : Option CallFault) → Goes sees p x y → Goes sees p y z

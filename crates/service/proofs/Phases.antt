@@ -8,8 +8,7 @@ use Rattle.run_laws.proofs.Names.{same_name_self}
 use Rattle.run_model.specs.declared.answer.Answer.TheVariants as answers
 use Rattle.run_model.specs.declared.step.Step.{Step}
 use Rattle.run_model.specs.declared.step.Step.TheVariants as steps
-use Rattle.run_model.specs.Runs.{World}
-use Rattle.stepping.specs.Beside.{IsMadeWith, Sees}
+use Rattle.stepping.specs.Beside.{IsMadeWith, OwnRun, Sees}
 use Rattle.stepping.specs.Stepping.{Leaves}
 use Rattle.service.specs.Calling.{IsCall, IsDone, IsVote}
 use Rattle.service.specs.Ending.{AreCutShort, ArePolled, HasHappened, HaveHappened, IsEnded, IsEndingCut, prepares, tells}
@@ -21,7 +20,7 @@ use Rattle.service.proofs.Concluded.{call_concludes, call_stopped, concluded_the
 use Rattle.service.proofs.Ended.{call_happened, close_cut, is_ended_by, poll_cut, polled_yes, tell_cut, verdict_cut, vote_happens}
 use Rattle.service.proofs.Going.{short_after}
 
-module _ {M : Type 0} (run : M → World) (sees : Sees) (leaves : Leaves M) where
+module _ {M : Type 0} (run : M → OwnRun) (sees : Sees) (leaves : Leaves M) where
   -- ---- a call that is tried
 
   -- a step other than a vote that happened was done
