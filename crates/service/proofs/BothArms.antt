@@ -18,7 +18,7 @@ use Rattle.run_model.specs.Votes.{step_votes}
 use Rattle.run_laws.proofs.Begun.{ancestor_begun, begun_cases, begun_once}
 use Rattle.run_laws.proofs.Growth.{begun_stays, followed}
 use Rattle.run_laws.proofs.Names.{clash, parent_child, same_name_self, same_name_true}
-use Rattle.stepping.specs.Beside.{OwnRun, Sees}
+use Rattle.stepping.specs.Beside.{OwnRun, Sees, started}
 use Rattle.service.specs.Arms.{AreJoined, any_step}
 use Rattle.service.specs.Together.{BeginArms, arms_of}
 use Rattle.service.specs.Transacting.{AllSettled, AllVotersTold, AreOwn, Began, EndedAndTold, FallsShort, Goes, IsSettled, Works, began_at, begins_arms, belongs, finishes, in_arm, is_below, works_with}
@@ -172,8 +172,12 @@ short_of_none : (fault : CallFault) {So : Type 0} → (None ≡ Some fault) ⊎ 
 short_of_none fault (inl h) = cc
 short_of_none fault (inr so) = so
 
-module _ {sees : Sees} (a : Name) (begun one other new : OwnRun) (j : AreJoined sees begun one other new) (arms : begins_arms begun.past ≡ true)
-    (left right : Option CallFault) (u : Works sees a begun one None left) (v : Works sees a begun other None right) where
+module _ {sees : Sees} (a : Name) (begun : OwnRun) (since : List (List Event)) (one other new : OwnRun) (j : AreJoined sees begun since one other new)
+    (arms : begins_arms begun.past ≡ true) (left right : Option CallFault) (u : Works sees a (started begun since) one None left)
+    (v : Works sees a (started begun since) other None right) where
+  abbrev start : OwnRun
+  start = started begun since
+
   abbrev mine : Step → Bool
   mine = works_with (u.tops ++ v.tops) a
 
@@ -184,56 +188,56 @@ module _ {sees : Sees} (a : Name) (begun one other new : OwnRun) (j : AreJoined 
   other_wider = with_back u.tops v.tops a
 
   goes : Goes sees mine begun new
-  goes = joined_goes begun one other new j (works_with u.tops a) (works_with v.tops a) mine one_wider other_wider u.goes v.goes
+  goes = joined_goes begun since one other new j (works_with u.tops a) (works_with v.tops a) mine one_wider other_wider u.goes v.goes
 
   crashes_not : (g : ℕ) (step : Step) → mine step ≡ true → step_crashes step g ≡ false
   crashes_not = with_crashes_not (u.tops ++ v.tops) a
 
   one_settled : (b : Name) → IsSettled b one → IsSettled b new
-  one_settled = settled_there begun one new j.of_one j.of_both (one_part j.merge) mine crashes_not goes
+  one_settled = settled_there begun since one new j.of_one j.of_both (one_part j.merge) mine crashes_not goes
 
   other_settled : (b : Name) → IsSettled b other → IsSettled b new
-  other_settled = settled_there begun other new j.of_other j.of_both (other_part j.merge) mine crashes_not goes
+  other_settled = settled_there begun since other new j.of_other j.of_both (other_part j.merge) mine crashes_not goes
 
   one_told : (g : ℕ) (b : Name) → told_since_crash g b one.past ≡ true → told_since_crash g b new.past ≡ true
-  one_told = told_there begun one new j.of_one j.of_both (one_part j.merge) mine crashes_not goes
+  one_told = told_there begun since one new j.of_one j.of_both (one_part j.merge) mine crashes_not goes
 
   other_told : (g : ℕ) (b : Name) → told_since_crash g b other.past ≡ true → told_since_crash g b new.past ≡ true
-  other_told = told_there begun other new j.of_other j.of_both (other_part j.merge) mine crashes_not goes
+  other_told = told_there begun since other new j.of_other j.of_both (other_part j.merge) mine crashes_not goes
 
   -- an arm's run, by steps of the action
-  arm_goes : (p : Step → Bool) (arm : OwnRun) (own : Goes sees any_step begun arm) → ((s : Step) → p s ≡ true → mine s ≡ true) → Goes sees p begun arm
-      → Goes sees mine begun arm
+  arm_goes : (p : Step → Bool) (arm : OwnRun) (own : Goes sees any_step start arm) → ((s : Step) → p s ≡ true → mine s ≡ true) → Goes sees p start arm
+      → Goes sees mine start arm
   arm_goes p arm own f a = record {
     lists = own.lists;
     since = own.since;
     later = own.later;
     past = own.past;
-    own = own_wider sees p mine begun f own.later (own_at p begun arm own.later a own.past);
+    own = own_wider sees p mine start f own.later (own_at p start arm own.later a own.past);
   }
 
   one_short : (fault : CallFault) → left ≡ Some fault → FallsShort sees mine begun new fault
   unfolding arm_goes goes joined_goes
   one_short fault h =
-      in_arm begun one new (goes_none mine begun) arms (arm_goes (works_with u.tops a) one j.of_one one_wider u.goes)
-      (short_wider (works_with u.tops a) mine begun one fault one_wider (short_of_none fault (u.short fault h))) goes (one_part j.merge)
+      in_arm begun one new since (goes_none mine begun) arms (arm_goes (works_with u.tops a) one j.of_one one_wider u.goes)
+      (short_wider (works_with u.tops a) mine start one fault one_wider (short_of_none fault (u.short fault h))) goes (one_part j.merge)
       (goes_none mine new)
 
   other_short : (fault : CallFault) → right ≡ Some fault → FallsShort sees mine begun new fault
   unfolding arm_goes goes joined_goes
   other_short fault h =
-      in_arm begun other new (goes_none mine begun) arms (arm_goes (works_with v.tops a) other j.of_other other_wider v.goes)
-      (short_wider (works_with v.tops a) mine begun other fault other_wider (short_of_none fault (v.short fault h))) goes (other_part j.merge)
+      in_arm begun other new since (goes_none mine begun) arms (arm_goes (works_with v.tops a) other j.of_other other_wider v.goes)
+      (short_wider (works_with v.tops a) mine start other fault other_wider (short_of_none fault (v.short fault h))) goes (other_part j.merge)
       (goes_none mine new)
 
   all_settled : left ≡ None → right ≡ None → AllSettled begun new
-  all_settled l r b fresh old = elim (begun_joined begun one other new j b fresh) [
+  all_settled l r b fresh old = elim (begun_joined begun since one other new j b fresh) [
     | inl k ↦ one_settled b ((u.settled l).1 b k old)
     | inr k ↦ other_settled b ((v.settled r).1 b k old)
   ]
 
   all_told : left ≡ None → right ≡ None → AllVotersTold begun new
-  all_told l r t g fresh old = elim (any_joined begun one other new j (λ e. step_votes e.step g t) fresh) [
+  all_told l r t g fresh old = elim (any_joined begun since one other new j (λ e. step_votes e.step g t) fresh) [
     | inl k ↦ one_told g t ((u.settled l).2 t g k old)
     | inr k ↦ other_told g t ((v.settled r).2 t g k old)
   ]
@@ -243,8 +247,8 @@ module _ {sees : Sees} (a : Name) (begun one other new : OwnRun) (j : AreJoined 
     tops = u.tops ++ v.tops;
     began =
         both_began u.tops v.tops begun new
-        (λ t i. began_there begun one new j.of_one j.of_both (one_part j.merge) t (u.began t i))
-        (λ t i. began_there begun other new j.of_other j.of_both (other_part j.merge) t (v.began t i));
+        (λ t i. began_there begun since one new j.of_one j.of_both (one_part j.merge) t (u.began t i))
+        (λ t i. began_there begun since other new j.of_other j.of_both (other_part j.merge) t (v.began t i));
     goes = goes;
     settled = λ h. let (w, l, r) = none_of_three was left right h in (w, all_settled l r, all_told l r);
     short = λ fault h. elim (some_of_three was left right fault h) [
@@ -271,13 +275,13 @@ module _ {sees : Sees} (a : Name) (begun one other new : OwnRun) (j : AreJoined 
               let (ended, told) = s_told l in
               subst (λ c. IsSettled c new) (same_name_true s b k)
               (settled_where s home begun new (began_home s (or_left _ _ (same_name_self s))) grows
-              (ended_there begun one new j.of_one j.of_both (one_part j.merge) s ended, one_told home s told))
+              (ended_there begun since one new j.of_one j.of_both (one_part j.merge) s ended, one_told home s told))
           | inr k ↦ elim (or_cases (same_name t b) false k) [
             | inl e ↦
                 let (ended, told) = t_told r in
                 subst (λ c. IsSettled c new) (same_name_true t b e)
                 (settled_where t home begun new (began_home t (or_right (same_name s t) _ (or_left _ _ (same_name_self t)))) grows
-                (ended_there begun other new j.of_other j.of_both (other_part j.merge) t ended, other_told home t told))
+                (ended_there begun since other new j.of_other j.of_both (other_part j.merge) t ended, other_told home t told))
             | inr e ↦ absurd (false≢true e)
           ]
         ]

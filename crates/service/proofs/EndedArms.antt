@@ -1,5 +1,5 @@
 -- Arms that ended, as work of their action, and which of its children have committed then.
-use Rattle.std.proofs.Common.{Bool, Err, None, Ok, OnErr, Option, Result, ap, false, inl, inr, refl, subst, sym, true, ◌∙◌, ◌∷◌, [], ◌≡◌}
+use Rattle.std.proofs.Common.{Bool, Err, List, None, Ok, OnErr, Option, Result, ap, false, inl, inr, refl, subst, sym, true, ◌∙◌, ◌∷◌, [], ◌≡◌}
 use mathlib.Core.Bool.{Bool-set}
 use Rattle.std.proofs.Math.Logic.{∥∥₁_elim, ∥∥₁_map}
 use Rattle.std.proofs.lemmas.Bool.{and_parts, false_from_ne_true, not-true, or_left, or_right}
@@ -8,10 +8,11 @@ use Rattle.std.specs.Result.{is_ok}
 use Rattle.action_names.specs.Names.{Name, has_name, is_prefix, parent_of, same_name}
 use Rattle.run_model.specs.declared.answer.Answer.TheVariants as answers
 use Rattle.run_model.specs.declared.step.Step.TheVariants as steps
+use Rattle.run_model.specs.declared.history.Event.{Event}
 use Rattle.run_model.specs.Actions.{is_begun, is_committed, step_commits}
 use Rattle.run_laws.proofs.Growth.{Follows, committed_stays, here}
 use Rattle.run_laws.proofs.Names.{clash, same_name_self}
-use Rattle.stepping.specs.Beside.{OwnRun, Sees}
+use Rattle.stepping.specs.Beside.{OwnRun, Sees, started}
 use Rattle.service.specs.Arms.{AreJoined, any_step}
 use Rattle.service.specs.Calling.{ComesToNothing}
 use Rattle.service.specs.Together.{BeginArms, CommitsNoOther, EndsArm, RunsInArm, arms_of}
@@ -142,19 +143,22 @@ module _ {sees : Sees} (a s t : Name) (x begun : OwnRun) (begins : BeginArms see
   pub above_not : (b : Name) → is_below a b ≡ true → is_prefix b a ≡ false
   above_not b below = not-true (is_prefix b a) (and_parts (is_prefix a b) _ below).1
 
-  module _ (one other new : OwnRun) (j : AreJoined sees begun one other new) where
+  module _ (since : List (List Event)) (one other new : OwnRun) (j : AreJoined sees begun since one other new) where
+    abbrev start : OwnRun
+    start = started begun since
+
     -- what neither arm committed was not committed
     uncommitted_by : (b : Name) → is_committed b one.past ≡ false → is_committed b other.past ≡ false → is_committed b new.past ≡ false
     uncommitted_by b p q =
         false_from_ne_true _ (λ h.
-        elim (any_joined begun one other new j (λ e. step_commits e.step b) h) [ inl k ↦ clash k p | inr k ↦ clash k q ])
+        elim (any_joined begun since one other new j (λ e. step_commits e.step b) h) [ inl k ↦ clash k p | inr k ↦ clash k q ])
 
     pub one_says : {T E : Type 0} (gave : Result T E) → OnOk gave (is_committed s one.past ≡ true)
         → OnErr gave (is_committed s one.past ≡ is_committed s begun.past) → is_committed s other.past ≡ is_committed s begun.past
         → is_committed s new.past ≡ is_ok gave
     one_says gave ok err beside =
         let not_yet = uncommitted s (or_left _ _ (same_name_self s)) in
-        says_by gave (is_committed s new.past) (on_ok gave (committed_there begun one new j.of_one j.of_both (one_part j.merge) s) ok)
+        says_by gave (is_committed s new.past) (on_ok gave (committed_there begun since one new j.of_one j.of_both (one_part j.merge) s) ok)
         (on_err gave (λ same. uncommitted_by s (same ∙ not_yet) (beside ∙ not_yet)) err)
 
     pub other_says : {T E : Type 0} (gave : Result T E) → OnOk gave (is_committed t other.past ≡ true)
@@ -162,7 +166,7 @@ module _ {sees : Sees} (a s t : Name) (x begun : OwnRun) (begins : BeginArms see
         → is_committed t new.past ≡ is_ok gave
     other_says gave ok err beside =
         let not_yet = uncommitted t (or_right (same_name s t) _ (or_left _ _ (same_name_self t))) in
-        says_by gave (is_committed t new.past) (on_ok gave (committed_there begun other new j.of_other j.of_both (other_part j.merge) t) ok)
+        says_by gave (is_committed t new.past) (on_ok gave (committed_there begun since other new j.of_other j.of_both (other_part j.merge) t) ok)
         (on_err gave (λ same. uncommitted_by t (beside ∙ not_yet) (same ∙ not_yet)) err)
 
     grows : Follows begun.past new.past
@@ -179,22 +183,22 @@ module _ {sees : Sees} (a s t : Name) (x begun : OwnRun) (begins : BeginArms see
     child_kept b p q =
         same_if_both (is_committed b new.past) (is_committed b begun.past)
         (λ h.
-        elim (any_joined begun one other new j (λ e. step_commits e.step b) h) [ inl k ↦ sym p ∙ k | inr k ↦ sym q ∙ k ])
+        elim (any_joined begun since one other new j (λ e. step_commits e.step b) h) [ inl k ↦ sym p ∙ k | inr k ↦ sym q ∙ k ])
         (committed_stays b grows)
         ∙ arms_kept b
 
     -- what began in an arm began in between
-    began_by_one : (u : Name) → Began u begun one → Began u x new
+    began_by_one : (u : Name) → Began u start one → Began u x new
     began_by_one u h =
-        began_within u x begun new new first (began_there begun one new j.of_one j.of_both (one_part j.merge) u h) here
+        began_within u x begun new new first (began_there begun since one new j.of_one j.of_both (one_part j.merge) u h) here
 
-    began_by_other : (u : Name) → Began u begun other → Began u x new
+    began_by_other : (u : Name) → Began u start other → Began u x new
     began_by_other u h =
-        began_within u x begun new new first (began_there begun other new j.of_other j.of_both (other_part j.merge) u h) here
+        began_within u x begun new new first (began_there begun since other new j.of_other j.of_both (other_part j.merge) u h) here
 
-    pub commits_no_other : ((b : Name) → parent_of b ≡ a → same_name s b ≡ false → ((u : Name) → Began u begun one → is_prefix u b ≡ false)
+    pub commits_no_other : ((b : Name) → parent_of b ≡ a → same_name s b ≡ false → ((u : Name) → Began u start one → is_prefix u b ≡ false)
         → is_committed b one.past ≡ is_committed b begun.past)
-        → ((b : Name) → parent_of b ≡ a → same_name t b ≡ false → ((u : Name) → Began u begun other → is_prefix u b ≡ false)
+        → ((b : Name) → parent_of b ≡ a → same_name t b ≡ false → ((u : Name) → Began u start other → is_prefix u b ≡ false)
         → is_committed b other.past ≡ is_committed b begun.past)
         → CommitsNoOther a s t x new
     commits_no_other by_one by_other b under not_s not_t apart =

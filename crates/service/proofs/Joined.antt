@@ -11,7 +11,7 @@ use Rattle.run_model.specs.Actions.{begins, is_aborted, is_begun, is_committed, 
 use Rattle.run_model.specs.Telling.{step_tells, told_since_crash}
 use Rattle.run_laws.proofs.Begun.{begun_cases, begun_more}
 use Rattle.run_laws.proofs.Names.{has_name_append}
-use Rattle.stepping.specs.Beside.{IsPartOf, OwnRun, Sees, beside, both, none}
+use Rattle.stepping.specs.Beside.{IsPartOf, OwnRun, Sees, beside, both, none, started}
 use Rattle.stepping.proofs.Beside.{part_of_all}
 use Rattle.service.specs.Arms.{AreJoined, IsMerge, any_step, of_neither, of_one, of_other}
 use Rattle.service.specs.Transacting.{AreOwn, Began, Goes, IsSettled, began_at, begins_at}
@@ -145,16 +145,19 @@ module _ {sees : Sees} where
   pub own_at : (p : Step → Bool) (x y : OwnRun) (later : List Event) → Goes sees p x y → y.past ≡ later ++ x.past → AreOwn sees p x later
   own_at p x y later a e = subst (AreOwn sees p x) (append_cancel_right a.later later x.past (sym a.past ∙ e)) a.own
 
-  own_merge : (p q mine : Step → Bool) → ((s : Step) → p s ≡ true → mine s ≡ true) → ((s : Step) → q s ≡ true → mine s ≡ true) → (x : OwnRun)
-      {one other all : List Event} → IsMerge one other all → AreOwn sees any_step x all → AreOwn sees p x one → AreOwn sees q x other
+  own_merge : (p q mine : Step → Bool) → ((s : Step) → p s ≡ true → mine s ≡ true) → ((s : Step) → q s ≡ true → mine s ≡ true) → (x y : OwnRun)
+      {one other all : List Event} → IsMerge one other all → AreOwn sees any_step x all → AreOwn sees p y one → AreOwn sees q y other
       → AreOwn sees mine x all
-  own_merge p q mine f k x of_neither own a b = tt
-  own_merge p q mine f k x (of_one e m) own a b = (f e.step a.0, own.1, own.2, own_merge p q mine f k x m own.3 a.3 b)
-  own_merge p q mine f k x (of_other e m) own a b = (k e.step b.0, own.1, own.2, own_merge p q mine f k x m own.3 a b.3)
+  own_merge p q mine f k x y of_neither own a b = tt
+  own_merge p q mine f k x y (of_one e m) own a b = (f e.step a.0, own.1, own.2, own_merge p q mine f k x y m own.3 a.3 b)
+  own_merge p q mine f k x y (of_other e m) own a b = (k e.step b.0, own.1, own.2, own_merge p q mine f k x y m own.3 a b.3)
 
-  module _ (begun one other new : OwnRun) (j : AreJoined sees begun one other new) where
+  module _ (begun : OwnRun) (since : List (List Event)) (one other new : OwnRun) (j : AreJoined sees begun since one other new) where
+    abbrev start : OwnRun
+    start = started begun since
+
     module _ (p q mine : Step → Bool) (f : (s : Step) → p s ≡ true → mine s ≡ true) (k : (s : Step) → q s ≡ true → mine s ≡ true)
-        (a : Goes sees p begun one) (b : Goes sees q begun other) where
+        (a : Goes sees p start one) (b : Goes sees q start other) where
       -- both went on by steps of a kind, and so did the caller
       unfoldable pub joined_goes : Goes sees mine begun new
       joined_goes = record {
@@ -163,8 +166,8 @@ module _ {sees : Sees} where
         later = j.of_both.later;
         past = j.of_both.past;
         own =
-            own_merge p q mine f k begun j.merge j.of_both.own (own_at p begun one j.of_one.later a j.of_one.past)
-            (own_at q begun other j.of_other.later b j.of_other.past);
+            own_merge p q mine f k begun start j.merge j.of_both.own (own_at p start one j.of_one.later a j.of_one.past)
+            (own_at q start other j.of_other.later b j.of_other.past);
       }
 
     pub any_joined : (p : Event → Bool) → list_any p new.past ≡ true → (list_any p one.past ≡ true) ⊎ (list_any p other.past ≡ true)
@@ -182,7 +185,8 @@ module _ {sees : Sees} where
         ]
 
   -- an arm's run is a part of the caller's
-  module _ (begun arm new : OwnRun) (own : Goes sees any_step begun arm) (all : Goes sees any_step begun new) (part : IsPartOf own.later all.later) where
+  module _ (begun : OwnRun) (since : List (List Event)) (arm new : OwnRun) (own : Goes sees any_step (started begun since) arm)
+      (all : Goes sees any_step begun new) (part : IsPartOf own.later all.later) where
     pub committed_there : (a : Name) → is_committed a arm.past ≡ true → is_committed a new.past ≡ true
     committed_there a h =
         subst (λ past. is_committed a past ≡ true) (sym all.past)
@@ -197,7 +201,7 @@ module _ {sees : Sees} where
         subst (λ past. began_at g b past ≡ true) (sym all.past)
         (began_at_part g begun.past part b (subst (λ past. began_at g b past ≡ true) own.past h))
 
-    pub began_there : (t : Name) → Began t begun arm → Began t begun new
+    pub began_there : (t : Name) → Began t (started begun since) arm → Began t begun new
     began_there t b = record {
       number = b.number;
       named = b.named;
