@@ -1,6 +1,7 @@
 -- Arms that begin, as calls.
-use Rattle.std.proofs.Common.{List, Ok, Option, None, Some, [], ap, subst, suc, sym, ◌∙◌, ◌∷◌, ◌≡◌}
-use Rattle.action_names.specs.Names.{Name, child_of}
+use Rattle.std.proofs.Common.{List, Ok, Option, None, Some, [], ap, subst, suc, sym, true, ℕ, ◌∙◌, ◌∷◌, ◌≡◌}
+use Rattle.std.proofs.lemmas.Bool.{or_left, or_right}
+use Rattle.action_names.specs.Names.{Name, child_of, has_name, same_name}
 use Rattle.run_model.specs.declared.answer.Answer.TheVariants as answers
 use Rattle.run_model.specs.declared.answer.Refusal.{Refusal}
 use Rattle.run_model.specs.declared.history.Event.{Event}
@@ -11,12 +12,15 @@ use Rattle.run_model.specs.Actions.{next_number}
 use Rattle.run_model.specs.Answers.{answer_of, outcome, refused_or}
 use Rattle.run_model.specs.Openings.{Opening, opening_in}
 use Rattle.run_model.specs.Refusals.{checks, first_refusal}
+use Rattle.run_laws.proofs.Names.{same_name_self}
 use Rattle.stepping.specs.Beside.{IsAnsweredTo, OwnRun, Sees, own_after}
 use Rattle.stepping.specs.Stepping.{Leaves}
 use Rattle.service.specs.Calling.{BeganThese, IsCall}
 use Rattle.service.specs.Opening.{BeganBoth}
 use Rattle.service.specs.Together.{BeginArms, arms_of}
+use Rattle.service.specs.Transacting.{began_at}
 use Rattle.service.specs.declared.place.Place.{Place}
+use Rattle.service.proofs.BothArms.{arm_began}
 
 -- two arms have two names
 names_of_two : (opening : Opening) (a : Name) (past : List Event) (names : List Name) → answer_of opening (arms_of a) past ≡ answers.Began names
@@ -64,3 +68,18 @@ module _ {M : Type 0} (run : M → OwnRun) (sees : Sees) (leaves : Leaves M) (a 
     answer = subst (IsAnsweredTo sees (run old) (arms_of a)) call.gives.shows call.gives.made.answered;
     after = call.gives.made.after ∙ ap (λ answer. own_after (run old) (arms_of a) answer) call.gives.shows;
   }
+
+  -- each began at the action's home
+  module _ (arms : Place × Place) (call : IsCall run sees leaves (arms_of a) BeganBoth old new (Ok arms)) (home : ℕ)
+      (there : began_at home a (run old).past ≡ true) where
+    began_home : (b : Name) → has_name (arms.0.action ∷ arms.1.action ∷ []) b ≡ true → (at : ℕ) → at ≡ home → began_at at b (run new).past ≡ true
+    began_home b is at same =
+        subst (λ h. began_at h b (run new).past ≡ true) (sym same)
+        (arm_began {sees = sees} a arms.0.action arms.1.action (run old) (run new) (begins_by_both arms call) home there b is)
+
+    pub one_there : arms.0.home ≡ home → began_at arms.0.home arms.0.action (run new).past ≡ true
+    one_there = began_home arms.0.action (or_left _ _ (same_name_self arms.0.action)) arms.0.home
+
+    pub other_there : arms.1.home ≡ home → began_at arms.1.home arms.1.action (run new).past ≡ true
+    other_there =
+        began_home arms.1.action (or_right (same_name arms.0.action arms.1.action) _ (or_left _ _ (same_name_self arms.1.action))) arms.1.home

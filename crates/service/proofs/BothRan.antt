@@ -1,5 +1,5 @@
 -- Two arms that ran at once and ended, as the action's transaction sees them.
-use Rattle.std.proofs.Common.{List, None, Option, Result, subst, true, ℕ, ◌≡◌}
+use Rattle.std.proofs.Common.{List, None, Option, Result, Some, subst, sym, true, ℕ, ◌∙◌, ◌≡◌}
 use mathlib.Core.Bool.{Bool-set}
 use Rattle.std.proofs.Math.Logic.{∥∥₁_elim, ∥∥₁_map, ∥∥₁_prop}
 use Rattle.std.specs.Option.{option_or}
@@ -15,7 +15,7 @@ use Rattle.service.specs.Working.{Does}
 use Rattle.service.specs.declared.fault.CallFault.{CallFault}
 use Rattle.service.specs.declared.place.Place.{Place}
 use Rattle.service.proofs.BothArms.{AreSiblings, begun_arms, siblings, works_of_arms}
-use Rattle.service.proofs.EndedArms.{above_not, arm_committed, arm_ran, arm_told, arm_works, commits_no_other, commits_no_sibling, commits_not_beside, commits_not_self, one_begun, one_says, other_begun, other_says}
+use Rattle.service.proofs.EndedArms.{above_not, arm_committed, arm_ran, arm_told, arm_works, commits_no_other, commits_no_sibling, commits_not_beside, commits_not_self, one_begun, one_says, other_begun, other_says, some_same}
 
 module _ {J T E K U F : Type 0} {sees : Sees} {does : Does J T E} {also_does : Does K U F} {comes : CallFault → E → Type 0}
     {also_comes : CallFault → F → Type 0} (a : Name) (x begun : OwnRun) (since : List (List Event)) (one other new : OwnRun) (s_at s_now t_at t_now : Place) (before after : J)
@@ -70,6 +70,15 @@ module _ {J T E K U F : Type 0} {sees : Sees} {does : Does J T E} {also_does : D
             commits_no_sibling t_at t_now start other also_before also_after t_kept q a c (above_not a s t x begun begins t kin.other_below) is differs apart)
             b under not_s not_t above);
       }
+
+  -- with what each is known to give
+  pub both_gave : (gave : Result T E) (also_gave : Result U F) → s_kept ≡ Some gave → t_kept ≡ Some also_gave
+      → RanTogether sees does also_does comes also_comes a x new before after also_before also_after gave also_gave
+  both_gave gave also_gave is also_is =
+      subst (λ r. RanTogether sees does also_does comes also_comes a x new before after also_before also_after gave r)
+      (some_same (sym q.is ∙ also_is))
+      (subst (λ r. RanTogether sees does also_does comes also_comes a x new before after also_before also_after r q.result)
+      (some_same (sym p.is ∙ is)) both_ran)
 
   pub both_worked : (home : ℕ) (was : Option CallFault) → began_at home a x.past ≡ true → s_at.home ≡ home → t_at.home ≡ home → s_at.left ≡ None
       → t_at.left ≡ None → ∥ Works sees a x new was (option_or (option_or was s_now.left) t_now.left) ∥₁

@@ -44,6 +44,15 @@ module _ {sees : Sees} where
       (settles_wider (settles s) (settles_both s t) x y was mid (EndedAndTold s g y) (λ step h. or_left (settles s step) (settles t step) h) u)
       (settles_wider (settles t) (settles_both s t) y z mid is (EndedAndTold t g z) (λ step h. or_right (settles s step) (settles t step) h) v)
 
+  -- of these two, from this run on
+  pub settled_as : (c d s t : Name) (g : ℕ) (z y w : OwnRun) (was is : Option CallFault) → c ≡ s → d ≡ t → z ≡ y
+      → Settles sees (settles_both c d) z w was is (EndedAndTold c g w × EndedAndTold d g w)
+      → Settles sees (settles_both s t) y w was is (EndedAndTold s g w × EndedAndTold t g w)
+  settled_as c d s t g z y w was is p q r h =
+      subst (λ v. Settles sees (settles_both s t) v w was is (EndedAndTold s g w × EndedAndTold t g w)) r
+      (subst (λ e. Settles sees (settles_both s e) z w was is (EndedAndTold s g w × EndedAndTold e g w)) q
+      (subst (λ e. Settles sees (settles_both e d) z w was is (EndedAndTold e g w × EndedAndTold d g w)) p h))
+
   module _ (a s t : Name) (home : ℕ) (x y w : OwnRun) (was is : Option CallFault) (begins : BeginArms sees a s t x y)
       (ends : Settles sees (settles_both s t) y w was is (EndedAndTold s home w × EndedAndTold t home w)) where
     settles_below : (step : Step) → settles_both s t step ≡ true → works_in a step ≡ true

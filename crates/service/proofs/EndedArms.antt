@@ -1,8 +1,8 @@
 -- Arms that ended, as work of their action, and which of its children have committed then.
-use Rattle.std.proofs.Common.{Bool, Err, List, None, Ok, OnErr, Option, Result, ap, false, inl, inr, refl, subst, sym, true, ◌∙◌, ◌∷◌, [], ◌≡◌}
+use Rattle.std.proofs.Common.{Bool, Err, List, None, Ok, OnErr, Option, Result, Some, ap, false, inl, inr, refl, subst, sym, true, ℕ, ◌∙◌, ◌∷◌, [], ◌≡◌}
 use mathlib.Core.Bool.{Bool-set}
 use Rattle.std.proofs.Math.Logic.{∥∥₁_elim, ∥∥₁_map}
-use Rattle.std.proofs.lemmas.Bool.{and_parts, false_from_ne_true, not-true, or_left, or_right}
+use Rattle.std.proofs.lemmas.Bool.{and_parts, false_from_ne_true, false≢true, not-true, or_left, or_right}
 use Rattle.std.specs.Prelude.{OnOk}
 use Rattle.std.specs.Result.{is_ok}
 use Rattle.action_names.specs.Names.{Name, has_name, is_prefix, parent_of, same_name}
@@ -15,8 +15,8 @@ use Rattle.run_laws.proofs.Names.{clash, same_name_self}
 use Rattle.stepping.specs.Beside.{OwnRun, Sees, started}
 use Rattle.service.specs.Arms.{AreJoined, any_step}
 use Rattle.service.specs.Calling.{ComesToNothing}
-use Rattle.service.specs.Together.{BeginArms, CommitsNoOther, EndsArm, RunsInArm, arms_of}
-use Rattle.service.specs.Transacting.{Began, EndedAndTold, Goes, Settles, Works, finishes, is_below, settles, works_in}
+use Rattle.service.specs.Together.{BeginArms, CommitsNoOther, EndsArm, HasRoomAgain, RunsInArm, arms_of}
+use Rattle.service.specs.Transacting.{Began, EndedAndTold, Goes, Includes, Settles, Works, finishes, is_below, settles, works_in}
 use Rattle.service.specs.Working.{Does, IsResultOf}
 use Rattle.service.specs.declared.fault.CallFault.{CallFault}
 use Rattle.service.specs.declared.place.Place.{Place}
@@ -28,6 +28,15 @@ use Rattle.service.proofs.Parts.{begun_is_uncommitted}
 use Rattle.service.proofs.Undone.{work_commits_none}
 
 -- ---- one arm
+
+-- what is kept is one
+pub some_same : {A : Type 0} {x y : A} → Some x ≡ Some y → x ≡ y
+some_same e = cc
+
+-- a result that is a value
+value_so : {T E So : Type 0} (r : Result T E) → OnOk r So → is_ok r ≡ true → So
+value_so (Ok x) so h = so
+value_so (Err x) so h = absurd (false≢true h)
 
 module _ {J T E : Type 0} {sees : Sees} {does : Does J T E} {comes : CallFault → E → Type 0} (at now : Place) (begun run : OwnRun)
     (before after : J) (kept_result : Option (Result T E)) (e : EndsArm sees does comes at now begun run before after kept_result) where
@@ -66,6 +75,14 @@ module _ {J T E : Type 0} {sees : Sees} {does : Does J T E} {comes : CallFault �
     ended = arm_settles.goes;
     gives = subst (λ c. IsResultOf comes (ComesToNothing sees e.worked (steps.Commit c)) e.done e.result) e.action e.ends.gives;
   }
+
+  -- it reached what the action had reached
+  pub arm_reached : (before : List ℕ) → Includes before at.reached.items → Includes before now.reached.items
+  arm_reached before h n k = e.ends.reached n (e.reached n (h n k))
+
+  -- its list has room for as many again, if it gives a value
+  pub arm_room : (gave : Result T E) → kept_result ≡ Some gave → is_ok gave ≡ true → HasRoomAgain now.reached
+  arm_room gave is ok = value_so e.result e.ends.room (ap (λ r. is_ok r) (some_same (sym e.is ∙ is)) ∙ ok)
 
   -- ---- what it commits
 

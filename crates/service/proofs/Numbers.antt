@@ -1,6 +1,6 @@
 -- Numbers in a list to which some are added.
 use lib.Dec.{eqb}
-use Rattle.std.proofs.Common.{List, [], arith, eq-eqb, eqb-true, get_or, inl, inr, length, subst, suc, sym, true, zero, ℕ, ◌++◌, ◌<◌, ◌==◌, ◌∷◌, ◌≡◌}
+use Rattle.std.proofs.Common.{Err, List, Ok, Result, [], arith, eq-eqb, eqb-true, false, get_or, inl, inr, length, subst, suc, sym, true, zero, ℕ, ◌++◌, ◌<◌, ◌==◌, ◌∷◌, ◌≡◌}
 use Rattle.std.proofs.lemmas.Bool.{false≢true, or_cases, or_left, or_right}
 use Rattle.std.proofs.lemmas.List.Filters.{dedup_is}
 use Rattle.std.proofs.lemmas.List.Kept.{Contains-dedup_nat}
@@ -8,7 +8,8 @@ use Rattle.std.proofs.lemmas.List.Sorted.{Contains-permutation}
 use Rattle.std.proofs.lemmas.Map.Views.{Contains-from_any}
 use Rattle.std.specs.List.{Contains, insert}
 use Rattle.std.specs.List.Retain.{DiffersFromLast, IsFiltered}
-use Rattle.std.specs.Prelude.{IsPermutation}
+use Rattle.std.specs.Prelude.{IsPermutation, if◌then◌else◌}
+use Rattle.std.specs.Result.{is_ok}
 use Rattle.run_laws.proofs.Names.{eqb_self}
 use Rattle.service.proofs.Concluded.{has_front}
 use Rattle.service.specs.Transacting.{Includes, has_number}
@@ -58,6 +59,11 @@ includes_sorted xs ys p n h = contains_has ys n (Contains-permutation xs ys n p 
 includes_once : (xs ys : List ℕ) → IsFiltered (DiffersFromLast eqb) [] xs ys → Includes xs ys
 includes_once xs ys f n h =
     contains_has ys n (subst (λ zs. Contains zs n) (sym (dedup_is eqb xs ys f)) (Contains-dedup_nat xs n (has_contains xs n h)))
+
+-- what was appended, if there was room for it
+pub appended : {T E : Type 0} (r : Result T E) (xs ys both : List ℕ) → is_ok r ≡ true → both ≡ (if is_ok r then xs ++ ys else xs) → both ≡ xs ++ ys
+appended (Ok x) xs ys both h e = e
+appended (Err x) xs ys both h e = absurd (false≢true h)
 
 module _ (xs ys both sorted once : List ℕ) (append : both ≡ xs ++ ys) (sort : IsPermutation both sorted)
     (dedup : IsFiltered (DiffersFromLast eqb) [] sorted once) where

@@ -8,6 +8,7 @@ use stepping::MakesOwnSteps;
 
 /// What runs in a thread of its own, and makes its steps by a maker of its own.
 pub trait Arm<W: MakesOwnSteps + Drop> {
+    ghost use Rattle.stepping.specs.Beside.{OwnRun};
     ghost use Rattle.service.specs.Arms.{ArmDoes};
 
     /// That it may run from this run on.
@@ -34,7 +35,6 @@ pub trait RunsArms: MakesOwnSteps + Drop + Sized {
     ghost use Rattle.run_model.specs.declared.history.Event.{Event};
     ghost use Rattle.stepping.specs.Beside.{started};
     ghost use Rattle.service.specs.Arms.{HaveRun};
-    ghost use Rattle.stepping.specs.Beside.{OwnRun};
 
     /// Runs both arms at once. For each there is a maker of its own, which has the caller's events so far. The caller
     /// has the events of both afterwards. After an error neither has run.
