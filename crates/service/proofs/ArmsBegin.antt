@@ -1,5 +1,5 @@
 -- Arms that begin, as calls.
-use Rattle.std.proofs.Common.{List, Ok, Option, None, Some, [], ap, subst, suc, sym, true, ℕ, ◌∙◌, ◌∷◌, ◌≡◌}
+use Rattle.std.proofs.Common.{Err, List, Ok, Option, None, Some, [], ap, subst, suc, sym, true, ℕ, ◌∙◌, ◌∷◌, ◌≡◌}
 use Rattle.std.proofs.lemmas.Bool.{or_left, or_right}
 use Rattle.action_names.specs.Names.{Name, child_of, has_name, same_name}
 use Rattle.run_model.specs.declared.answer.Answer.TheVariants as answers
@@ -19,6 +19,7 @@ use Rattle.service.specs.Calling.{BeganThese, IsCall}
 use Rattle.service.specs.Opening.{BeganBoth}
 use Rattle.service.specs.Together.{BeginArms, arms_of}
 use Rattle.service.specs.Transacting.{began_at}
+use Rattle.service.specs.declared.fault.CallFault.{CallFault}
 use Rattle.service.specs.declared.place.Place.{Place}
 use Rattle.service.proofs.BothArms.{arm_began}
 
@@ -69,17 +70,35 @@ module _ {M : Type 0} (run : M → OwnRun) (sees : Sees) (leaves : Leaves M) (a 
     after = call.gives.made.after ∙ ap (λ answer. own_after (run old) (arms_of a) answer) call.gives.shows;
   }
 
-  -- each began at the action's home
-  module _ (arms : Place × Place) (call : IsCall run sees leaves (arms_of a) BeganBoth old new (Ok arms)) (home : ℕ)
-      (there : began_at home a (run old).past ≡ true) where
-    began_home : (b : Name) → has_name (arms.0.action ∷ arms.1.action ∷ []) b ≡ true → (at : ℕ) → at ≡ home → began_at at b (run new).past ≡ true
-    began_home b is at same =
-        subst (λ h. began_at h b (run new).past ≡ true) (sym same)
-        (arm_began {sees = sees} a arms.0.action arms.1.action (run old) (run new) (begins_by_both arms call) home there b is)
+  -- what did not begin them
+  pub none_of_two : (given : List ArmKind) (fault : CallFault) → given ≡ kinds.Sub ∷ kinds.Sub ∷ []
+      → IsCall run sees leaves (steps.Arms a given) BeganThese old new (Err fault) → IsCall run sees leaves (arms_of a) BeganBoth old new (Err fault)
+  none_of_two given fault e call =
+      let of : IsCall run sees leaves (arms_of a) BeganThese old new (Err fault) =
+          subst (λ ks. IsCall run sees leaves (steps.Arms a ks) BeganThese old new (Err fault)) e call in
+      record { gives = tt; why = of.why; same = of.same; stores = of.stores }
 
-    pub one_there : arms.0.home ≡ home → began_at arms.0.home arms.0.action (run new).past ≡ true
-    one_there = began_home arms.0.action (or_left _ _ (same_name_self arms.0.action)) arms.0.home
+  module _ (arms : Place × Place) (call : IsCall run sees leaves (arms_of a) BeganBoth old new (Ok arms)) where
+    -- at these places
+    pub begins_at_places : (one other : Place) → one ≡ arms.0 → other ≡ arms.1 → BeginArms sees a one.action other.action (run old) (run new)
+    begins_at_places one other p q =
+        subst (λ (o : Place). BeginArms sees a o.action other.action (run old) (run new)) (sym p)
+        (subst (λ (o : Place). BeginArms sees a arms.0.action o.action (run old) (run new)) (sym q) (begins_by_both arms call))
 
-    pub other_there : arms.1.home ≡ home → began_at arms.1.home arms.1.action (run new).past ≡ true
-    other_there =
-        began_home arms.1.action (or_right (same_name arms.0.action arms.1.action) _ (or_left _ _ (same_name_self arms.1.action))) arms.1.home
+    -- each at the action's home
+    module _ (home : ℕ) (there : began_at home a (run old).past ≡ true) where
+      began_home : (place : Place) → has_name (arms.0.action ∷ arms.1.action ∷ []) place.action ≡ true → place.home ≡ home
+          → began_at place.home place.action (run new).past ≡ true
+      began_home place is same =
+          subst (λ h. began_at h place.action (run new).past ≡ true) (sym same)
+          (arm_began {sees = sees} a arms.0.action arms.1.action (run old) (run new) (begins_by_both arms call) home there place.action is)
+
+      pub one_there : (one : Place) → one ≡ arms.0 → arms.0.home ≡ home → began_at one.home one.action (run new).past ≡ true
+      one_there one p h =
+          subst (λ (o : Place). began_at o.home o.action (run new).past ≡ true) (sym p)
+          (began_home arms.0 (or_left _ _ (same_name_self arms.0.action)) h)
+
+      pub other_there : (other : Place) → other ≡ arms.1 → arms.1.home ≡ home → began_at other.home other.action (run new).past ≡ true
+      other_there other q h =
+          subst (λ (o : Place). began_at o.home o.action (run new).past ≡ true) (sym q)
+          (began_home arms.1 (or_right (same_name arms.0.action arms.1.action) _ (or_left _ _ (same_name_self arms.1.action))) h)

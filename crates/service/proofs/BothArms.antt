@@ -42,9 +42,15 @@ arms_named : (opening : Opening) (a : Name) (past : List Event) (one other : Nam
 unfolding answer_of
 arms_named opening a past one other h = by (first_refusal (checks opening (arms_of a) past)) h
   where
+    n : ℕ
+    n = next_number opening a past
+
+    two : answers.Began (child_of a n ∷ child_of a (suc n) ∷ []) ≡ answers.Began (one ∷ other ∷ []) → (one ≡ child_of a n) × (other ≡ child_of a (suc n))
+    two e = (cc, cc)
+
     by : (o : Option Refusal) → refused_or o (outcome opening (arms_of a) past) ≡ answers.Began (one ∷ other ∷ [])
-        → (one ≡ child_of a (next_number opening a past)) × (other ≡ child_of a (suc (next_number opening a past)))
-    by None h = (cc, cc)
+        → (one ≡ child_of a n) × (other ≡ child_of a (suc n))
+    by None h = two h
     by (Some why) h = cc
 
 less_than_next : (n : ℕ) → (n == suc n) ≡ false

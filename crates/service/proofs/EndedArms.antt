@@ -40,34 +40,34 @@ value_so (Err x) so h = absurd (false≢true h)
 
 module _ {J T E : Type 0} {sees : Sees} {does : Does J T E} {comes : CallFault → E → Type 0} (at now : Place) (begun run : OwnRun)
     (before after : J) (kept_result : Option (Result T E)) (e : EndsArm sees does comes at now begun run before after kept_result) where
-  abbrev s : Name
-  s = at.action
+  abbrev arm : Name
+  arm = at.action
 
   abbrev mid : Option CallFault
   mid = e.left.left
 
-  pub arm_settles : Settles sees (finishes s) e.worked run mid now.left (EndedAndTold s at.home run)
+  pub arm_settles : Settles sees (finishes arm) e.worked run mid now.left (EndedAndTold arm at.home run)
   arm_settles =
-      subst (λ h. Settles sees (finishes s) e.worked run mid now.left (EndedAndTold s h run)) e.home
+      subst (λ h. Settles sees (finishes arm) e.worked run mid now.left (EndedAndTold arm h run)) e.home
       (subst (λ c. Settles sees (finishes c) e.worked run mid now.left (EndedAndTold c e.left.home run)) e.action e.ends.ends)
 
-  pub arm_undone : OnErr e.result (Goes sees (settles s) e.worked run)
+  pub arm_undone : OnErr e.result (Goes sees (settles arm) e.worked run)
   arm_undone = subst (λ c. OnErr e.result (Goes sees (settles c) e.worked run)) e.action e.ends.undone
 
-  pub arm_committed : OnOk e.result (is_committed s run.past ≡ true)
+  pub arm_committed : OnOk e.result (is_committed arm run.past ≡ true)
   arm_committed = subst (λ c. OnOk e.result (is_committed c run.past ≡ true)) e.action e.ends.committed
 
   -- as work of the action
-  pub arm_works : (a : Name) → is_below a s ≡ true → at.left ≡ None → ∥ Works sees a begun run None now.left ∥₁
+  pub arm_works : (a : Name) → is_below a arm ≡ true → at.left ≡ None → ∥ Works sees a begun run None now.left ∥₁
   arm_works a below none =
       ∥∥₁_map e.works (λ work.
-      works_ended a s at.home begun e.worked run None mid now.left below (subst (λ was. Works sees s begun e.worked was mid) none work) arm_settles)
+      works_ended a arm at.home begun e.worked run None mid now.left below (subst (λ was. Works sees arm begun e.worked was mid) none work) arm_settles)
 
-  pub arm_told : now.left ≡ None → EndedAndTold s at.home run
+  pub arm_told : now.left ≡ None → EndedAndTold arm at.home run
   arm_told h = let (k, told) = arm_settles.settled h in told
 
   -- as the work ran in it
-  pub arm_ran : RunsInArm sees does comes s begun before after e.result run
+  pub arm_ran : RunsInArm sees does comes arm begun before after e.result run
   arm_ran = record {
     worked = e.worked;
     done = e.done;
@@ -77,8 +77,8 @@ module _ {J T E : Type 0} {sees : Sees} {does : Does J T E} {comes : CallFault �
   }
 
   -- it reached what the action had reached
-  pub arm_reached : (before : List ℕ) → Includes before at.reached.items → Includes before now.reached.items
-  arm_reached before h n k = e.ends.reached n (e.reached n (h n k))
+  pub arm_reached : (xs : List ℕ) → Includes xs at.reached.items → Includes xs now.reached.items
+  arm_reached xs h n k = e.ends.reached n (e.reached n (h n k))
 
   -- its list has room for as many again, if it gives a value
   pub arm_room : (gave : Result T E) → kept_result ≡ Some gave → is_ok gave ≡ true → HasRoomAgain now.reached
@@ -87,33 +87,33 @@ module _ {J T E : Type 0} {sees : Sees} {does : Does J T E} {comes : CallFault �
   -- ---- what it commits
 
   -- not itself, if it is undone
-  pub commits_not_self : is_begun s begun.past ≡ true → OnErr e.result (is_committed s run.past ≡ is_committed s begun.past)
+  pub commits_not_self : is_begun arm begun.past ≡ true → OnErr e.result (is_committed arm run.past ≡ is_committed arm begun.past)
   commits_not_self k = by e.result arm_undone
     where
-      worked_not : is_committed s e.worked.past ≡ is_committed s begun.past
+      worked_not : is_committed arm e.worked.past ≡ is_committed arm begun.past
       worked_not =
-          ∥∥₁_elim e.works (Bool-set (is_committed s e.worked.past) (is_committed s begun.past)) (λ work.
-          work_commits_not_own s begun e.worked at.left mid work k)
+          ∥∥₁_elim e.works (Bool-set (is_committed arm e.worked.past) (is_committed arm begun.past)) (λ work.
+          work_commits_not_own arm begun e.worked at.left mid work k)
 
-      by : (r : Result T E) → OnErr r (Goes sees (settles s) e.worked run) → OnErr r (is_committed s run.past ≡ is_committed s begun.past)
+      by : (r : Result T E) → OnErr r (Goes sees (settles arm) e.worked run) → OnErr r (is_committed arm run.past ≡ is_committed arm begun.past)
       by (Ok x) h = tt
-      by (Err x) h = kept (λ step. step_commits step s) (settles s) e.worked run (settles_commits_not s) h ∙ worked_not
+      by (Err x) h = kept (λ step. step_commits step arm) (settles arm) e.worked run (settles_commits_not arm) h ∙ worked_not
 
   -- no action beside it that began before
-  pub commits_not_beside : (b : Name) → is_prefix s b ≡ false → is_begun b begun.past ≡ true → is_committed b run.past ≡ is_committed b begun.past
+  pub commits_not_beside : (b : Name) → is_prefix arm b ≡ false → is_begun b begun.past ≡ true → is_committed b run.past ≡ is_committed b begun.past
   commits_not_beside b out k =
-      kept (λ step. step_commits step b) (finishes s) e.worked run (finishes_commits_no_other s b out) arm_settles.goes
+      kept (λ step. step_commits step b) (finishes arm) e.worked run (finishes_commits_no_other arm b out) arm_settles.goes
       ∙ ∥∥₁_elim e.works (Bool-set (is_committed b e.worked.past) (is_committed b begun.past)) (λ work.
-      work_commits_not_beside s begun e.worked at.left mid work b out k)
+      work_commits_not_beside arm begun e.worked at.left mid work b out k)
 
   -- and no other child of its action
-  pub commits_no_sibling : (a b : Name) → is_prefix s a ≡ false → parent_of b ≡ a → same_name s b ≡ false
+  pub commits_no_sibling : (a b : Name) → is_prefix arm a ≡ false → parent_of b ≡ a → same_name arm b ≡ false
       → ((t : Name) → Began t begun run → is_prefix t b ≡ false) → is_committed b run.past ≡ is_committed b begun.past
   commits_no_sibling a b out under differs apart =
-      kept (λ step. step_commits step b) (finishes s) e.worked run (finishes_commits_not s b differs) arm_settles.goes
+      kept (λ step. step_commits step b) (finishes arm) e.worked run (finishes_commits_not arm b differs) arm_settles.goes
       ∙ ∥∥₁_elim e.works (Bool-set (is_committed b e.worked.past) (is_committed b begun.past)) (λ work.
-      work_commits_none a s begun e.worked at.left mid out work b under
-      (λ t h. apart t (began_within t begun begun e.worked run here h (goes_grows (finishes s) e.worked run arm_settles.goes))))
+      work_commits_none a arm begun e.worked at.left mid out work b under
+      (λ t h. apart t (began_within t begun begun e.worked run here h (goes_grows (finishes arm) e.worked run arm_settles.goes))))
 
 -- ---- both
 
