@@ -1,8 +1,10 @@
 -- How an arm ends, by what came of its work.
-use Rattle.std.proofs.Common.{Err, List, Ok, Option, Result, inl, refl, subst, sym, true, ℕ, ◌≡◌}
+use Rattle.std.proofs.Common.{Err, List, Ok, Option, Result, ap, false, inl, refl, subst, sym, true, ℕ, ◌+◌, ◌≡◌, ◌≤◌}
 use Rattle.std.proofs.Math.Logic.{∥∥₁_map}
-use Rattle.std.specs.Prelude.{OnOk}
-use Rattle.std.specs.Result.{IsErrAnd}
+use Rattle.std.proofs.lemmas.Bool.{false≢true}
+use Rattle.std.specs.Prelude.{OnOk, vec_capacity, vec_len}
+use Rattle.std.specs.Result.{IsErrAnd, is_ok}
+use Rattle.std.specs.declared.vec.Vec.{Vec}
 use Rattle.action_names.specs.Names.{Name}
 use Rattle.run_model.specs.declared.step.Step.TheVariants as steps
 use Rattle.run_model.specs.Actions.{is_committed}
@@ -22,7 +24,26 @@ not_ok : {T E : Type 0} (r : Result T E) {P : E → Type 0} (So : Type 0) → Is
 not_ok (Ok x) So h = absurd h
 not_ok (Err x) So h = tt
 
-includes_same : (xs ys : List ℕ) → ys ≡ xs → Includes xs ys
+-- what is so anyway is so of a value
+pub if_value : {T E : Type 0} (r : Result T E) (So : Type 0) → So → OnOk r So
+if_value (Ok x) So so = so
+if_value (Err x) So so = tt
+
+-- what needs room is so of a value that comes only where there was room
+pub if_room : {T E U F : Type 0} (r : Result T E) (room : Result U F) (So : Type 0) → OnOk r (is_ok room ≡ true) → OnOk room So → OnOk r So
+if_room (Ok x) (Ok y) So h so = so
+if_room (Ok x) (Err y) So h so = absurd (false≢true h)
+if_room (Err x) room So h so = tt
+
+-- a list as long as the room that it has
+pub again_at : {Z : Type 0} (numbers : Vec ℕ Z) (more : ℕ) → more ≡ vec_len numbers → vec_len numbers + more ≤ vec_capacity numbers → HasRoomAgain numbers
+again_at numbers more e h = subst (λ n. vec_len numbers + n ≤ vec_capacity numbers) e h
+
+-- a part of values that are the same
+pub part_same : {V A : Type 0} (v w : V) (f : V → A) → v ≡ w → f v ≡ f w
+part_same v w f e = ap f e
+
+pub includes_same : (xs ys : List ℕ) → ys ≡ xs → Includes xs ys
 includes_same xs ys e = subst (Includes xs) (sym e) (λ n h. h)
 
 module _ {T E : Type 0} {sees : Sees} {comes : CallFault → E → Type 0} (at now : Place) (worked run : OwnRun) (same : now.action ≡ at.action)

@@ -1,6 +1,7 @@
 -- Arms that begin, as calls.
-use Rattle.std.proofs.Common.{Err, List, Ok, Option, None, Some, [], ap, subst, suc, sym, true, ℕ, ◌∙◌, ◌∷◌, ◌≡◌}
+use Rattle.std.proofs.Common.{Err, List, None, Ok, Option, Result, Some, [], ap, subst, suc, sym, true, ℕ, ◌∙◌, ◌∷◌, ◌≡◌}
 use Rattle.std.proofs.lemmas.Bool.{or_left, or_right}
+use Rattle.std.specs.Result.{IsErrAnd}
 use Rattle.action_names.specs.Names.{Name, child_of, has_name, same_name}
 use Rattle.run_model.specs.declared.answer.Answer.TheVariants as answers
 use Rattle.run_model.specs.declared.answer.Refusal.{Refusal}
@@ -29,9 +30,15 @@ names_of_two : (opening : Opening) (a : Name) (past : List Event) (names : List 
 unfolding answer_of
 names_of_two opening a past names h = by (first_refusal (checks opening (arms_of a) past)) h
   where
+    n : ℕ
+    n = next_number opening a past
+
+    two : answers.Began (child_of a n ∷ child_of a (suc n) ∷ []) ≡ answers.Began names → names ≡ child_of a n ∷ child_of a (suc n) ∷ []
+    two e = cc
+
     by : (o : Option Refusal) → refused_or o (outcome opening (arms_of a) past) ≡ answers.Began names
-        → names ≡ child_of a (next_number opening a past) ∷ child_of a (suc (next_number opening a past)) ∷ []
-    by None h = cc
+        → names ≡ child_of a n ∷ child_of a (suc n) ∷ []
+    by None h = two h
     by (Some why) h = cc
 
 module _ {M : Type 0} (run : M → OwnRun) (sees : Sees) (leaves : Leaves M) (a : Name) (old new : M) where
@@ -70,13 +77,16 @@ module _ {M : Type 0} (run : M → OwnRun) (sees : Sees) (leaves : Leaves M) (a 
     after = call.gives.made.after ∙ ap (λ answer. own_after (run old) (arms_of a) answer) call.gives.shows;
   }
 
-  -- what did not begin them
-  pub none_of_two : (given : List ArmKind) (fault : CallFault) → given ≡ kinds.Sub ∷ kinds.Sub ∷ []
-      → IsCall run sees leaves (steps.Arms a given) BeganThese old new (Err fault) → IsCall run sees leaves (arms_of a) BeganBoth old new (Err fault)
-  none_of_two given fault e call =
+  -- a call of the two kinds that came to nothing
+  pub none_of_two : (given : List ArmKind) (result : Result (Place × Place) CallFault) (fault : CallFault) → given ≡ kinds.Sub ∷ kinds.Sub ∷ []
+      → IsErrAnd result (λ x. x ≡ fault) → IsCall run sees leaves (steps.Arms a given) BeganThese old new (Err fault)
+      → IsCall run sees leaves (arms_of a) BeganBoth old new result
+  none_of_two given (Ok arms) fault e h call = absurd h
+  none_of_two given (Err x) fault e h call =
       let of : IsCall run sees leaves (arms_of a) BeganThese old new (Err fault) =
-          subst (λ ks. IsCall run sees leaves (steps.Arms a ks) BeganThese old new (Err fault)) e call in
-      record { gives = tt; why = of.why; same = of.same; stores = of.stores }
+      subst (λ ks. IsCall run sees leaves (steps.Arms a ks) BeganThese old new (Err fault)) e call in
+      subst (λ f. IsCall run sees leaves (arms_of a) BeganBoth old new (Err f)) (sym h)
+      (record { gives = tt; why = of.why; same = of.same; stores = of.stores })
 
   module _ (arms : Place × Place) (call : IsCall run sees leaves (arms_of a) BeganBoth old new (Ok arms)) where
     -- at these places

@@ -158,24 +158,18 @@ where
     let (first, second) = begin_arms(service, at, alloc)?;
     let mut first = in_arm(first, one);
     let mut second = in_arm(second, other);
-    let ran = service.world.run_arms(&mut first, &mut second);
-    let InArm {
-        at: first,
-        done: gave,
-        ..
-    } = first;
-    let InArm {
-        at: second,
-        done: also_gave,
-        ..
-    } = second;
-    if let Err(fault) = ran {
-        call_off(service, at, &first.action, &second.action);
-        return Err(CallFault::Failed(fault));
+    match service.world.run_arms(&mut first, &mut second) {
+        Ok(()) => {
+            let gave = first.done.unwrap();
+            let also_gave = second.done.unwrap();
+            at.join(first.at, gave.is_ok(), second.at, also_gave.is_ok());
+            Ok((gave, also_gave))
+        }
+        Err(fault) => {
+            call_off(service, at, &first.at.action, &second.at.action);
+            Err(CallFault::Failed(fault))
+        }
     }
-    let (gave, also_gave) = (gave.unwrap(), also_gave.unwrap());
-    at.join(first, gave.is_ok(), second, also_gave.is_ok());
-    Ok((gave, also_gave))
 }
 
 /// The work, before it runs in the arm.
