@@ -1,4 +1,4 @@
-use Rattle.std.proofs.Common.{List, ℕ, ◌++◌, ◌≡◌}
+use Rattle.std.proofs.Common.{◌++◌, ◌≡◌}
 use Rattle.service.proofs.Numbers.{appended, includes_first, includes_second}
 use Rattle.service.proofs.place.with_all.Goals as goal
 

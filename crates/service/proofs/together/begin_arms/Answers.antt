@@ -1,6 +1,5 @@
 use Rattle.std.proofs.Common.{ap₂, sym, ◌∙◌, ◌∷◌, []}
 use Rattle.std.specs.List.{each_same}
-use Rattle.action_names.specs.Names.{Name}
 use Rattle.service.proofs.ArmEnds.{part_same}
 use Rattle.service.proofs.ArmsBegin.{begun_both, none_of_two, of_two, two_named}
 use Rattle.service.proofs.together.begin_arms.Goals as goal
@@ -23,7 +22,7 @@ returns-clause-call g c =
     let old = c.args.service.now.world in
     let new = c.begin_arms.new.self.world in
     begun_both run sees leaves c.args.at.now.action old new c.in_ok-begin_arms.field-0 c.arm_at.result c.arm_at-2.result
-    (c.both-one.ensures ∙ ap₂ (λ (one other : Name). one ∷ other ∷ []) (sym c.arm_at.ensures.action) (sym c.arm_at-2.ensures.action))
+    (c.both-one.ensures ∙ ap₂ (λ one other. one ∷ other ∷ []) (sym c.arm_at.ensures.action) (sym c.arm_at-2.ensures.action))
     (of_two run sees leaves c.args.at.now.action old new c.in_ok-kinds.kinds c.in_ok-begin_arms.field-0 c.in_ok-kinds.ensures c.in_ok-begin_arms.ensures)
 
 pub returns-clause-reached : goal.returns-clause-reached
