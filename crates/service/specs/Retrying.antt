@@ -53,7 +53,8 @@ module _ {E : Type 0} (obstacle : E → Option Obstacle) (retries : Retries) whe
 module _ {J T E : Type 0} (sees : Sees) (does : Does J T E) (again : Transacted T E → Bool)
     (home : ℕ) where
   -- A transaction of this work ended so.
-  pub record IsMadeOnce (old new : OwnRun) (before after : J) (ended : Transacted T E) : Type 0 where
+  pub record IsMadeOnce (old new : OwnRun) (before after : J) (ended : Transacted T E)
+      : Type 0 where
     pub transacts : TransactsAt sees home old new ended
     pub once : TransactsOnce sees does (steps.Top home) old new before after ended.outcome
 

@@ -65,7 +65,8 @@ pub record RunsInArm {J T E : Type 0} (sees : Sees) (does : Does J T E)
 module _ {T E : Type 0} (sees : Sees) (comes : CallFault → E → Type 0) where
   -- The arm was committed or aborted, and its guardian was told. If it gives a value, it has committed, and its list of
   -- guardians has room for as many again.
-  pub record IsEndOf (at now : Place) (worked run : OwnRun) (done result : Result T E) : Type 0 where
+  pub record IsEndOf (at now : Place) (worked run : OwnRun) (done result : Result T E)
+      : Type 0 where
     pub action : now.action ≡ at.action
     pub reached : Includes at.reached.items now.reached.items
     pub ends : Settles sees (finishes at.action) worked run at.left now.left
@@ -115,7 +116,8 @@ module _ {J T E K U F : Type 0} (sees : Sees) (does : Does J T E) (also_does : D
     pub no_other : CommitsNoOther a first second old new
 
 -- The arms began, and could not be run. Both were aborted.
-pub record AreCalledOff (sees : Sees) (a : Name) (old new : OwnRun) (fault : CallFault) : Type 0 where
+pub record AreCalledOff (sees : Sees) (a : Name) (old new : OwnRun) (fault : CallFault)
+    : Type 0 where
   pub first : Name
   pub second : Name
   pub begun : OwnRun

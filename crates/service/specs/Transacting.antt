@@ -209,13 +209,15 @@ module _ (sees : Sees) where
     pub why : ComesToNothing sees before step fault
     pub more : Goes mine before new
 
--- Of these steps one of this kind came to nothing, for this reason: at the caller's own run, or in an arm. The arm's run
--- went on from that at which arms began, and what it did is a part of what the caller then went on by. Who runs no arms
--- has only the first.
-pub data CameToNothing (sees : Sees) (mine kind : Step → Bool) : OwnRun → OwnRun → CallFault → Type 0 where
+-- Of these steps one of this kind came to nothing, for this reason: at the caller's own run, or in an arm. The arm's
+-- run went on from that at which arms began, and what it did is a part of what the caller then went on by. Who runs
+-- no arms has only the first.
+pub data CameToNothing (sees : Sees) (mine kind : Step → Bool) : OwnRun → OwnRun → CallFault
+    → Type 0 where
   by_itself : {old new : OwnRun} {fault : CallFault} → StopsAt sees mine kind old new fault
       → CameToNothing sees mine kind old new fault
-  in_arm : {old new : OwnRun} {fault : CallFault} (begun arm joined : OwnRun) (since : List (List Event))
+  in_arm : {old new : OwnRun} {fault : CallFault} (begun arm joined : OwnRun)
+      (since : List (List Event))
       → Goes sees mine old begun → begins_arms begun.past ≡ true
       → (inside : Goes sees mine (started begun since) arm)
       → CameToNothing sees mine kind (started begun since) arm fault
