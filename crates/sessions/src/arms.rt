@@ -33,7 +33,7 @@ impl<'a, K: OfRun, R: Forest, G: Guardian, P: Gate, U: Patience, H: Wait> Sessio
         ensures seen { self.new.last_seen ≡ self.old.last_seen }
     {
         let mut since = self.runtime.copy_known(&mut self.since);
-        let own = self.runtime.tell(&mut self.receipts);
+        let own = self.runtime.told(&mut self.receipts);
         self.runtime.join_known(&mut since, own);
         let last_seen = match &mut self.last_seen {
             Some(seen) => Some(self.runtime.copy(seen)),

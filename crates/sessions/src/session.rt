@@ -66,7 +66,7 @@ impl<'a, K: OfRun, R: Forest, G: Guardian, P: Gate, U: Patience, H: Wait> Sessio
             opening,
             patience,
             receipts: runtime.no_receipts(),
-            since: runtime.nothing_known(),
+            since: runtime.none_known(),
             last_seen: None,
             last_fault: None,
         }
@@ -146,7 +146,7 @@ impl<'a, K: OfRun, R: Forest, G: Guardian, P: Gate, U: Patience, H: Wait> Sessio
                     seen,
                 } = answered;
                 if let Some(receipt) = receipt {
-                    self.runtime.keep(&mut self.receipts, receipt);
+                    self.runtime.add_receipt(&mut self.receipts, receipt);
                 }
                 self.last_seen = Some(seen);
                 self.last_fault = None;
