@@ -12,12 +12,12 @@ use Rattle.sessions.proofs.Joining.{order_joined, runs_joined}
 -- A session and those of two arms, each of which began with what the session has.
 module _ (opening : Opening) (before own before_one one before_other other : List (List Event)) (last last_one last_other arms last_then : Option (List Event)) (apart : AreApart one other)
     (mine : ∥ AreInOrder opening before own last ∥₁) (first : ∥ AreInOrder opening before_one one last_one ∥₁) (second : ∥ AreInOrder opening before_other other last_other ∥₁)
-    (began : before_one ≡ before ++ own) (began_too : before_other ≡ before ++ own) (with_one : GoesOnFromBoth opening last last_one arms)
+    (began : ∥ before_one ≡ before ++ own ∥₁) (began_too : ∥ before_other ≡ before ++ own ∥₁) (with_one : GoesOnFromBoth opening last last_one arms)
     (with_both : GoesOnFromBoth opening arms last_other last_then) where
   pub in_order_then : ∥ AreInOrder opening before (own ++ (one ++ other)) last_then ∥₁
   in_order_then =
-      ∥∥₁_elim mine ∥∥₁_prop (λ m. ∥∥₁_elim first ∥∥₁_prop (λ f. ∥∥₁_map second (λ s.
-      order_joined opening before own before_one one before_other other last last_one last_other arms last_then apart m f s began began_too with_one with_both)))
+      ∥∥₁_elim mine ∥∥₁_prop (λ m. ∥∥₁_elim first ∥∥₁_prop (λ f. ∥∥₁_elim second ∥∥₁_prop (λ s. ∥∥₁_elim began ∥∥₁_prop (λ b. ∥∥₁_map began_too (λ t.
+      order_joined opening before own before_one one before_other other last last_one last_other arms last_then apart m f s b t with_one with_both)))))
 
   pub have_run : {A B : Type 0} (does_one : ArmDoes A) (does_other : ArmDoes B) (lists lists_one lists_other : OpeningLists) (a a_after : A) (b b_after : B)
       → opening_in lists ≡ opening
@@ -34,7 +34,8 @@ module _ (opening : Opening) (before own before_one one before_other other : Lis
         one_ran = did;
         other_ran = did_too;
         joined =
-            ∥∥₁_elim mine ∥∥₁_prop (λ m. ∥∥₁_elim first ∥∥₁_prop (λ f. ∥∥₁_elim second ∥∥₁_prop (λ s. ∥∥₁_elim goes ∥∥₁_prop (λ g. ∥∥₁_map goes_too (λ h.
-            runs_joined opening before own before_one one before_other other last last_one last_other arms last_then apart m f s began began_too with_one with_both lists
-            lists_one lists_other named g h)))));
+            ∥∥₁_elim mine ∥∥₁_prop (λ m. ∥∥₁_elim first ∥∥₁_prop (λ f. ∥∥₁_elim second ∥∥₁_prop (λ s. ∥∥₁_elim began ∥∥₁_prop (λ b. ∥∥₁_elim began_too ∥∥₁_prop (λ t.
+            ∥∥₁_elim goes ∥∥₁_prop (λ g. ∥∥₁_map goes_too (λ h.
+            runs_joined opening before own before_one one before_other other last last_one last_other arms last_then apart m f s b t with_one with_both lists
+            lists_one lists_other named g h)))))));
       }

@@ -53,8 +53,8 @@ impl<'a, K: OfRun, R: Forest, G: Guardian, P: Gate, U: Patience, H: Wait> Sessio
 
     /// Takes in what two arms did. No two receipts are of one event.
     fn join(&mut self, one: Session<'a, K, R, G, P, U, H>, other: Session<'a, K, R, G, P, U, H>)
-        requires one { one.since ≡ self.old.since ++ self.old.receipts }
-        requires other { other.since ≡ self.old.since ++ self.old.receipts }
+        requires one { ∥ one.since ≡ self.old.since ++ self.old.receipts ∥₁ }
+        requires other { ∥ other.since ≡ self.old.since ++ self.old.receipts ∥₁ }
         ensures since { self.new.since ≡ self.old.since }
         ensures receipts { self.new.receipts
             ≡ self.old.receipts ++ (one.receipts ++ other.receipts) }
