@@ -1,6 +1,6 @@
 -- Two arms of an action, in each of which work ran, at once.
-use Rattle.std.specs.Prelude.{◌≡◌, ◌⊎◌, ◌+◌, ◌≤◌, ℕ, Bool, true, false, ◌||◌, [], ◌∷◌, Option, Some, Result, OnErr, OnOk, vec_capacity, vec_len}
-use Rattle.std.specs.Result.{is_ok}
+use Rattle.std.specs.Prelude.{◌≡◌, ◌⊎◌, ◌+◌, ◌≤◌, ℕ, Bool, true, false, ◌||◌, [], ◌∷◌, Option, Some, Result, Ok, Err, OnErr, OnOk, vec_capacity, vec_len}
+use Rattle.std.specs.Result.{IsErrAnd, is_ok}
 use Rattle.std.specs.declared.vec.Vec.{Vec}
 use Rattle.action_names.specs.Names.{Name, is_prefix, parent_of, same_name}
 use Rattle.run_model.specs.declared.answer.Answer.TheVariants as answers
@@ -13,10 +13,13 @@ use Rattle.layer_contracts.specs.declared.guardian.Fault.{Fault}
 use Rattle.stepping.specs.Beside.{IsAnsweredTo, OwnRun, Sees, own_after, started}
 use Rattle.service.specs.Arms.{AreJoined}
 use Rattle.service.specs.Calling.{ComesToNothing}
-use Rattle.service.specs.Transacting.{Began, EndedAndTold, Goes, Includes, Settles, Works, finishes, settles}
-use Rattle.service.specs.Working.{Does, IsResultOf}
+use Rattle.service.specs.Transacting.{Began, Begins, EndedAndTold, Goes, Includes, Settles, Works, ends_top, finishes, settles}
+use Rattle.service.specs.Working.{Does, IsOutcomeOf, IsResultOf}
 use Rattle.service.specs.declared.fault.CallFault.{CallFault}
 use Rattle.service.specs.declared.fault.CallFault.TheVariants.{Failed}
+use Rattle.service.specs.declared.outcome.Cause.TheVariants.{Step as ByStep}
+use Rattle.service.specs.declared.outcome.Outcome.{Outcome}
+use Rattle.service.specs.declared.outcome.Outcome.TheVariants.{Aborted}
 use Rattle.service.specs.declared.place.Place.{Place}
 
 -- a list that can take in as many numbers again, without memory
@@ -129,3 +132,47 @@ pub record AreCalledOff (sees : Sees) (a : Name) (old new : OwnRun) (fault : Cal
 abbrev pub RanNot : Sees → Name → OwnRun → OwnRun → CallFault → Type 0
 RanNot sees a old new fault = (ComesToNothing sees old (arms_of a) fault × (new ≡ old))
     ⊎ AreCalledOff sees a old new fault
+
+-- ---- a transaction of two works
+
+-- both values, or else the first error
+abbrev pub both_given : {T U E : Type 0} → Result T E → Result U E → Result (T × U) E
+both_given (Ok one) (Ok other) = Ok (one, other)
+both_given (Ok one) (Err error) = Err error
+both_given (Err error) other = Err error
+
+module _ {J T K U E : Type 0} (sees : Sees) (does : Does J T E) (also_does : Does K U E)
+    (comes : CallFault → E → Type 0) where
+  -- Both works ran at once in arms of the action, and this comes of what they gave. Or no arm ran, for the reason of
+  -- which the error comes, and the works are as they were.
+  abbrev pub WorkTogether : Name → OwnRun → OwnRun → J → J → K → K → Result (T × U) E → Type 0
+  WorkTogether a begun worked one one_after other other_after done =
+      ((gave : Result T E) × (also_gave : Result U E) × (done ≡ both_given gave also_gave)
+      × RanTogether sees does also_does comes comes a begun worked one one_after other other_after
+      gave also_gave)
+      ⊎ ((fault : CallFault) × IsErrAnd done (comes fault) × RanNot sees a begun worked fault
+      × (one_after ≡ one) × (other_after ≡ other))
+
+  -- So both worked in the action. Then came steps that end it, and no other.
+  pub record RunsBoth (a : Name) (begun new : OwnRun) (one one_after : J) (other other_after : K)
+      (done : Result (T × U) E) : Type 0 where
+    pub worked : OwnRun
+    pub ran : WorkTogether a begun worked one one_after other other_after done
+    pub ended : Goes sees (ends_top a) worked new
+
+  -- A top action began at this home, and so both worked in it.
+  pub record RunsBothAt (home : ℕ) (old new : OwnRun) (one one_after : J) (other other_after : K)
+      (done : Result (T × U) E) : Type 0 where
+    pub top : Name
+    pub begun : OwnRun
+    pub begins : Begins sees (steps.Top home) top old begun
+    pub runs : RunsBoth top begun new one one_after other other_after done
+
+  -- The works of a transaction that ended so ran at once in its top action. Or this did not begin, and the works are as
+  -- they were.
+  abbrev pub TransactsTogether : ℕ → OwnRun → OwnRun → J → J → K → K → Outcome (T × U) E → Type 0
+  TransactsTogether home old new one one_after other other_after outcome =
+      ((fault : CallFault) × (outcome ≡ Aborted (ByStep fault)) × (new ≡ old)
+      × (one_after ≡ one) × (other_after ≡ other))
+      ⊎ ((done : Result (T × U) E) × IsOutcomeOf done outcome
+      × RunsBothAt home old new one one_after other other_after done)

@@ -18,6 +18,7 @@ mod subactions;
 mod together;
 mod top;
 mod transacting;
+mod transacting_together;
 mod transaction;
 mod two_phases;
 

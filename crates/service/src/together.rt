@@ -9,7 +9,7 @@ ghost use Rattle.service.specs.Opening.{BeganBoth};
 ghost use Rattle.service.specs.Together.{HasRoomAgain, IsEndOf, RanNot, RanTogether, arms_of, settles_both};
 ghost use Rattle.service.specs.Transacting.{CommitsNoChild, EndedAndTold, Goes, Includes, Settles, Works, began_at, finishes, settles};
 
-use crate::arms::{Arm, RunsArms};
+use crate::arms::{Arm, RunsArms, run_arms};
 use crate::fault::CallFault;
 use crate::place::Place;
 use crate::service::Service;
@@ -158,7 +158,7 @@ where
     let (first, second) = begin_arms(service, at, alloc)?;
     let mut first = in_arm(first, one);
     let mut second = in_arm(second, other);
-    match service.world.run_arms(&mut first, &mut second) {
+    match run_arms(&mut service.world, &mut first, &mut second) {
         Ok(()) => {
             let gave = first.done.unwrap();
             let also_gave = second.done.unwrap();

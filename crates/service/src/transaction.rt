@@ -3,14 +3,12 @@ ghost use Rattle.std.specs.Prelude.{◌≡◌, true, IfErr, IfOk, OnErr, OnOk};
 ghost use Rattle.run_model.specs.declared.step.Step.TheVariants as steps;
 ghost use Rattle.service.specs.Transacting.{Includes, Works, began_at};
 
-use crate::arms::RunsArms;
 use crate::fault::CallFault;
 use crate::nested::nest_in;
 use crate::outcome::Outcome;
 use crate::place::Place;
 use crate::service::Service;
 use crate::subactions::{call_in, operate_in};
-use crate::together::together_in;
 use action_names::Name;
 use atomic_types::{Op, Reply};
 use run_model::ObjectId;
@@ -110,40 +108,6 @@ impl<'s, W: MakesOwnSteps + Drop, B: Begun> Transaction<'s, W, B> {
             work.old work.new result }
     {
         nest_in(self.service, self.at, alloc, work)
-    }
-}
-
-impl<'s, W: RunsArms, B: Begun> Transaction<'s, W, B> {
-    ghost use Rattle.service.specs.Together.{RanNot, RanTogether};
-    ghost use Rattle.service.specs.Transacting.{CommitsNoChild};
-
-    /// Runs both works at once, each in an arm of the action: a subaction at the action's home, which is committed as
-    /// soon as its work succeeds. An arm whose work gives an error is undone, and it alone. Where the arms cannot be
-    /// begun or run, neither work has run.
-    pub fn together<J: Work<W> + Send, K: Work<W> + Send>(
-        &mut self,
-        alloc: Global,
-        one: &mut J,
-        other: &mut K,
-    ) -> Result<(Result<J::Value, J::Error>, Result<K::Value, K::Error>), CallFault>
-    where
-        J::Value: Send,
-        J::Error: Send,
-        K::Value: Send,
-        K::Error: Send,
-        ensures same_service { self.new.service.ghost_name ≡ self.old.service.ghost_name }
-        ensures same_action { self.new.at.ghost_name ≡ self.old.at.ghost_name }
-        ensures ran { IfOk result (λ gave. RanTogether W.sees J.does K.does J.Error.from_gives
-            K.Error.from_gives self.old.at.now.action (W.run self.old.service.now.world)
-            (W.run self.new.service.now.world) one.old one.new other.old other.new
-            gave.0 gave.1) }
-        ensures not { IfErr result (λ fault. RanNot W.sees self.old.at.now.action
-            (W.run self.old.service.now.world) (W.run self.new.service.now.world) fault) }
-        ensures undone { OnErr result (CommitsNoChild self.old.at.now.action
-            (W.run self.old.service.now.world) (W.run self.new.service.now.world)) }
-        ensures same { OnErr result ((one.new ≡ one.old) × (other.new ≡ other.old)) }
-    {
-        together_in(self.service, self.at, alloc, one, other)
     }
 }
 

@@ -95,7 +95,7 @@ returns-in-Ok-clause-works g c =
     let left = c.args.at.now.left in
     let old = c.args.service.now.world in
     let begun = c.begin_arms.new.service.world in
-    let new = run c.run_arms.new.self in
+    let new = run c.run_arms.new.world in
     let first = c.in_ok-first.first in
     let second = c.in_ok-first.second in
     let one = c.in_arm-first.result.at in
@@ -119,7 +119,7 @@ returns-in-Ok-clause-ran g c =
     let a = c.args.at.now.action in
     let old = c.args.service.now.world in
     let begun = c.begin_arms.new.service.world in
-    let new = run c.run_arms.new.self in
+    let new = run c.run_arms.new.world in
     let one = c.in_arm-first.result.at in
     let other = c.in_arm-second.result.at in
     let ran = c.in-Ok.ensures.run in
@@ -154,7 +154,7 @@ returns-in-Err-clause-works g c =
     ∣ works_called_off a one.action other.action home (run old) (run begun) new c.args.at.now.left c.call_off.new.at.left
     (begins_at_places run sees g.W.MakesOwnSteps.leaves a old begun (c.in_ok-first.first, c.in_ok-first.second) c.in_ok-first.ensures.call one other
     c.in_arm-first.ensures.at c.in_arm-second.ensures.at)
-    (settled_as c.run_arms.new.one.at.action c.run_arms.new.other.at.action one.action other.action home (run c.run_arms.new.self) (run begun) new
+    (settled_as c.run_arms.new.one.at.action c.run_arms.new.other.at.action one.action other.action home (run c.run_arms.new.world) (run begun) new
     c.args.at.now.left c.call_off.new.at.left (part_same c.run_arms.new.one c.in_arm-first.result (λ arm. arm.at.action) c.in-Err.ensures.one)
     (part_same c.run_arms.new.other c.in_arm-second.result (λ arm. arm.at.action) c.in-Err.ensures.other) c.in-Err.ensures.err c.call_off.ensures.ends)
     c.requires.there ∣₁
@@ -171,7 +171,7 @@ returns-in-Err-clause-not g c =
     let one = c.in_arm-first.result.at in
     let other = c.in_arm-second.result.at in
     let ends =
-    settled_as c.run_arms.new.one.at.action c.run_arms.new.other.at.action one.action other.action home (run c.run_arms.new.self) (run begun) new
+    settled_as c.run_arms.new.one.at.action c.run_arms.new.other.at.action one.action other.action home (run c.run_arms.new.world) (run begun) new
     c.args.at.now.left c.call_off.new.at.left (part_same c.run_arms.new.one c.in_arm-first.result (λ arm. arm.at.action) c.in-Err.ensures.one)
     (part_same c.run_arms.new.other c.in_arm-second.result (λ arm. arm.at.action) c.in-Err.ensures.other) c.in-Err.ensures.err
     c.call_off.ensures.ends in
@@ -200,7 +200,7 @@ returns-in-Err-clause-undone g c =
     none_committed_off a one.action other.action home (run old) (run begun) new c.args.at.now.left c.call_off.new.at.left
     (begins_at_places run sees g.W.MakesOwnSteps.leaves a old begun (c.in_ok-first.first, c.in_ok-first.second) c.in_ok-first.ensures.call one other
     c.in_arm-first.ensures.at c.in_arm-second.ensures.at)
-    (settled_as c.run_arms.new.one.at.action c.run_arms.new.other.at.action one.action other.action home (run c.run_arms.new.self) (run begun) new
+    (settled_as c.run_arms.new.one.at.action c.run_arms.new.other.at.action one.action other.action home (run c.run_arms.new.world) (run begun) new
     c.args.at.now.left c.call_off.new.at.left (part_same c.run_arms.new.one c.in_arm-first.result (λ arm. arm.at.action) c.in-Err.ensures.one)
     (part_same c.run_arms.new.other c.in_arm-second.result (λ arm. arm.at.action) c.in-Err.ensures.other) c.in-Err.ensures.err c.call_off.ensures.ends)
 
