@@ -1,5 +1,5 @@
 -- Two arms of an action, in each of which work ran, at once.
-use Rattle.std.specs.Prelude.{◌≡◌, ◌⊎◌, ◌+◌, ◌≤◌, ℕ, Bool, true, false, ◌||◌, [], ◌∷◌, Option, Some, Result, Ok, Err, OnErr, OnOk, vec_capacity, vec_len}
+use Rattle.std.specs.Prelude.{◌≡◌, ◌⊎◌, ◌+◌, ◌≤◌, ℕ, Bool, true, false, ◌||◌, List, [], ◌∷◌, Option, Some, Result, Ok, Err, OnErr, OnOk, vec_capacity, vec_len}
 use Rattle.std.specs.Result.{IsErrAnd, is_ok}
 use Rattle.std.specs.declared.vec.Vec.{Vec}
 use Rattle.action_names.specs.Names.{Name, is_prefix, parent_of, same_name}
