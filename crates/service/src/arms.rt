@@ -74,7 +74,8 @@ pub(crate) fn run_arms<W: RunsArms, A: Arm<W> + Send, B: Arm<W> + Send>(
     one: &mut A,
     other: &mut B,
 ) -> Result<(), Fault>
-    requires one { (since : List (List Event)) → A.may_run one.old (started (W.run world.old) since) }
+    requires one { (since : List (List Event))
+        → A.may_run one.old (started (W.run world.old) since) }
     requires other { (since : List (List Event))
         → B.may_run other.old (started (W.run world.old) since) }
     ensures run { OnOk result (HaveRun W.sees A.does B.does (W.run world.old) (W.run world.new)

@@ -16,8 +16,8 @@ use std::alloc::Global;
 
 impl<W: RunsArms> Service<W> {
     /// Runs two works at once in a new top action at this home, each in an arm of it, and then ends the action by two
-    /// phases: it commits if both works succeed and all guardians that they reached vote yes. Else it is aborted. Each of
-    /// these guardians is told. The error is that of the first work that failed, in the order given.
+    /// phases: it commits if both works succeed and all guardians that they reached vote yes. Else it is aborted. Each
+    /// of these guardians is told. The error is that of the first work that failed, in the order given.
     pub fn transact_together<
         J: Work<W, Error = E> + Send,
         K: Work<W, Error = E> + Send,
@@ -66,7 +66,8 @@ where
     J::Value: Send,
     K::Value: Send,
     requires there { began_at at.home at.action (W.run service.old.world).past ≡ true }
-    ensures runs { ∥ RunsTop W.sees at (W.run service.old.world) (W.run service.new.world) result ∥₁ }
+    ensures runs { ∥ RunsTop W.sees at (W.run service.old.world) (W.run service.new.world)
+        result ∥₁ }
     ensures once { (done : Result (J.Value × K.Value) E) × IsOutcomeOf done result.outcome
         × RunsBoth W.sees J.does K.does E.from_gives at.action (W.run service.old.world)
         (W.run service.new.world) one.old one.new other.old other.new done }
