@@ -49,10 +49,10 @@ pub second_seen : (opening : Opening) (other : Option (List Event)) → GoesOnFr
 second_seen opening other = record { first = behind_nothing (seen_in other); second = stays; run = λ a b. b }
 
 -- and a look further on
-pub seen_further : (opening : Opening) (one other joined : Option (List Event)) (seen now : List Event) → joined ≡ Some seen → IsBehind seen now
-    → IsRun opening now → GoesOnFromBoth opening one other joined → GoesOnFromBoth opening one other (Some now)
-seen_further opening one other joined seen now is further run both = record {
-  first = behind_further (subst (λ o. IsBehind (seen_in one) (seen_in o)) is both.first) further;
-  second = behind_further (subst (λ o. IsBehind (seen_in other) (seen_in o)) is both.second) further;
+pub seen_further : (opening : Opening) (one other : Option (List Event)) (seen now : List Event) → IsBehind seen now → IsRun opening now
+    → GoesOnFromBoth opening one other (Some seen) → GoesOnFromBoth opening one other (Some now)
+seen_further opening one other seen now further run both = record {
+  first = behind_further both.first further;
+  second = behind_further both.second further;
   run = λ a b. run;
 }

@@ -5,6 +5,7 @@ use Rattle.run_model.specs.declared.history.Event.{Event}
 use Rattle.run_model.specs.Openings.{Opening, OpeningLists}
 use Rattle.run_model.specs.Runs.{IsRun}
 use Rattle.locked_run.specs.Behind.{IsBehind}
+use Rattle.locked_run.specs.Receipts.{StandIn}
 use Rattle.stepping.specs.Beside.{OwnRun}
 use Rattle.runtime.specs.declared.answered.Answered.{Answered}
 use Rattle.runtime.specs.Faults.{fault_told}
@@ -72,6 +73,15 @@ pub record GoesOnFromBoth (opening : Opening) (one other joined : Option (List E
   pub second : IsBehind (seen_in other) (seen_in joined)
   pub run : IsRun opening (seen_in one) → IsRun opening (seen_in other)
       → IsRun opening (seen_in joined)
+
+-- The run goes on from what was seen, if anything was, and none of these receipts stands twice in it. Who had seen nothing
+-- has seen nothing still.
+abbrev pub LooksOn : Opening → List (List Event) → Option (List Event) → Option (List Event)
+    → Type 0
+LooksOn opening runs None now = now ≡ None
+LooksOn opening runs (Some seen) None = ⊥
+LooksOn opening runs (Some seen) (Some past) =
+    IsRun opening past × IsBehind seen past × StandIn past runs
 
 -- ---- what a step leaves
 

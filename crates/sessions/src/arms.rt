@@ -1,9 +1,10 @@
 //! The sessions of arms, each of which runs in a thread of its own.
-ghost use Rattle.sessions.specs.Sessions.{GoesOnFromBoth};
+ghost use Rattle.std.specs.Prelude.{◌≡◌};
+ghost use Rattle.sessions.specs.Sessions.{GoesOnFromBoth, LooksOn};
 
 use crate::session::Session;
 use layer_contracts::{Fault, Forest, Guardian};
-use runtime::{Gate, OfRun, Patience, Runtime, Seen};
+use runtime::{Gate, OfRun, Patience, Receipts, Runtime, Seen};
 use service::RunsArms;
 use std::sync::Wait;
 use std::thread::Threads;
@@ -31,10 +32,7 @@ impl<
         let mut since = self.runtime.copy_known(&mut self.since);
         let own = self.runtime.told(&mut self.receipts);
         self.runtime.join_known(&mut since, own);
-        let last_seen = match &mut self.last_seen {
-            Some(seen) => Some(self.runtime.copy(seen)),
-            None => None,
-        };
+        let last_seen = copied(self.runtime, &mut self.last_seen);
         Ok(Session {
             rt: self.rt,
             runtime: self.runtime,
@@ -53,11 +51,7 @@ impl<
         self.runtime.join_receipts(&mut self.receipts, one.receipts);
         self.runtime
             .join_receipts(&mut self.receipts, other.receipts);
-        self.last_seen = match seen {
-            // no two receipts are of one event
-            Some(seen) => Some(self.runtime.look(&mut self.receipts, seen)),
-            None => None,
-        };
+        self.last_seen = looked(self.runtime, &mut self.receipts, seen);
     }
 }
 
@@ -71,6 +65,36 @@ fn both<K: OfRun, R: Forest, G: Guardian, P: Gate>(
 {
     match (one, other) {
         (Some(one), Some(other)) => Some(runtime.join(one, other)),
-        (one, other) => one.or(other),
+        (one, None) => one,
+        (None, other) => other,
+    }
+}
+
+/// What was seen once more, if anything was.
+fn copied<K: OfRun, R: Forest, G: Guardian, P: Gate>(
+    runtime: &Runtime<K, R, G, P>,
+    seen: &mut Option<Seen<K>>,
+) -> Option<Seen<K>>
+    ensures copied { result ≡ seen.old }
+    ensures same { seen.new ≡ seen.old }
+{
+    match seen {
+        Some(seen) => Some(runtime.copy(seen)),
+        None => None,
+    }
+}
+
+/// Looks at the run together with what was seen of it, if anything was. No two of the receipts are of one event.
+fn looked<K: OfRun, R: Forest, G: Guardian, P: Gate>(
+    runtime: &Runtime<K, R, G, P>,
+    receipts: &mut Receipts<K>,
+    seen: Option<Seen<K>>,
+) -> Option<Seen<K>>
+    ensures looks { LooksOn K.opening receipts.old seen result }
+    ensures same { receipts.new ≡ receipts.old }
+{
+    match seen {
+        Some(seen) => Some(runtime.look(receipts, seen)),
+        None => None,
     }
 }
