@@ -1,5 +1,5 @@
 //! The steps of one thread.
-ghost use Rattle.std.specs.Prelude.{◌≡◌, [], true, IfOk, None};
+ghost use Rattle.std.specs.Prelude.{◌≡◌, ◌++◌, [], true, IfOk, None, option_to_list};
 ghost use Rattle.run_model.specs.Openings.{opening_in};
 ghost use Rattle.run_model.specs.declared.step.Step.{Step};
 ghost use Rattle.run_model.specs.declared.step.Step.TheVariants.{Op as Operation};
@@ -12,7 +12,9 @@ ghost use Rattle.stepping.specs.Beside.{is_waits};
 
 use layer_contracts::{Forest, Guardian};
 use run_model::{Answer, Name, ObjectId, Op, Opening, Step};
-use runtime::{Answered, Gate, Known, OfRun, Patience, Receipts, Runtime, Seen, StepFault};
+use runtime::{
+    Answered, Gate, Known, OfRun, Patience, Receipt, Receipts, Runtime, Seen, StepFault,
+};
 use std::sync::Wait;
 use stepping::{Fault, MakesOwnSteps};
 
@@ -145,9 +147,7 @@ impl<'a, K: OfRun, R: Forest, G: Guardian, P: Gate, U: Patience, H: Wait> Sessio
                     receipt,
                     seen,
                 } = answered;
-                if let Some(receipt) = receipt {
-                    self.runtime.add_receipt(&mut self.receipts, receipt);
-                }
+                keep_receipt(self.runtime, &mut self.receipts, receipt);
                 self.last_seen = Some(seen);
                 self.last_fault = None;
                 Ok(answer)
@@ -157,6 +157,19 @@ impl<'a, K: OfRun, R: Forest, G: Guardian, P: Gate, U: Patience, H: Wait> Sessio
                 Err(told(fault))
             }
         }
+    }
+}
+
+/// Keeps the receipt, if there is one.
+fn keep_receipt<K: OfRun, R: Forest, G: Guardian, P: Gate>(
+    runtime: &Runtime<K, R, G, P>,
+    receipts: &mut Receipts<K>,
+    receipt: Option<Receipt<K>>,
+)
+    ensures { receipts.new ≡ receipts.old ++ option_to_list receipt }
+{
+    if let Some(receipt) = receipt {
+        runtime.add_receipt(receipts, receipt);
     }
 }
 

@@ -12,5 +12,5 @@ invariant_of-self g c =
     record {
       same = old.same;
       ordered = ordered_then g.K.OfRun.opening old.since old.receipts old.last_seen step a.answer a.receipt a.seen old.ordered given
-          c.keep.new.self.receipts c.keep.ensures;
+          c.keep_receipt.new.receipts c.keep_receipt.ensures;
     }
