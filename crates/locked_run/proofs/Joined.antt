@@ -1,5 +1,5 @@
 -- Parts that are joined, one after another.
-use Rattle.std.proofs.Common.{List, [], ap, arith, subst, true, ℕ, ◌+◌, ◌≤◌, ◌++◌, ◌∙◌, ◌∷◌, ◌≡◌, append_assoc}
+use Rattle.std.proofs.Common.{List, [], ap, arith, subst, true, ℕ, ◌+◌, ◌++◌, ◌∙◌, ◌∷◌, ◌≡◌, append_assoc}
 use Rattle.std.specs.List.{AllByRecursion, AllZip}
 use Rattle.one_run.specs.declared.piece.Piece.{Piece}
 use Rattle.one_run.specs.Pieces.{AllFit, owners}
@@ -54,7 +54,7 @@ counted_with opening v w rs all n is tell counts =
       past = counts.past;
       run = counts.run;
       fits = fit_front counts.past v rs fits;
-      stand = stand_in counts.past rs tell (fit_back counts.past v rs fits) (λ k.
+      stand = stand_in opening counts.past rs tell (fit_back counts.past v rs fits) (λ k.
           let whole : owners k all ≡ owners k (v ++ rs) = ap (λ u. owners k u) is in
           let both = owners_append k v rs in
           let one = counts.owned k in

@@ -1,13 +1,13 @@
 -- Parts that tell of events, and the runs that end with these.
-use Rattle.std.proofs.Common.{◌≡◌, ◌==◌, ◌+◌, ◌-◌, ◌≤◌, ℕ, zero, suc, Bool, true, false, List, [], ◌∷◌, ◌++◌, Option, Some, None, cond, length, drop, map, refl, ap, ap₂, ◌∙◌, sym, subst, arith}
+use Rattle.std.proofs.Common.{◌≡◌, ◌==◌, ◌+◌, ◌-◌, ◌≤◌, ℕ, zero, suc, Bool, true, false, List, [], ◌∷◌, ◌++◌, Option, None, cond, length, drop, refl, ap, ap₂, ◌∙◌, sym, subst, arith}
 use Rattle.std.proofs.lemmas.List.{length-append, length-drop, length-map}
 use Rattle.std.specs.List.{AllByRecursion}
 use Rattle.atomic_table.specs.Seated.{TableId}
 use Rattle.one_run.specs.declared.piece.Piece.{Piece}
 use Rattle.one_run.specs.declared.run.Part.{Part}
-use Rattle.one_run.specs.Pieces.{AllFit, GoesOn, owner, owners, with_seen}
+use Rattle.one_run.specs.Pieces.{AllFit, owner, owners, seen_of, with_seen, witness}
 use Rattle.one_run.specs.Pieces.GoesOn.{longer, stays}
-use Rattle.one_run.specs.Rules.{Counts, told_of}
+use Rattle.one_run.specs.Rules.{Counts, first_of, others_of, told_of}
 use Rattle.one_run.proofs.Parts.{goes_anywhere}
 use Rattle.run_model.specs.declared.history.Event.{Event}
 use Rattle.run_model.specs.Openings.{Opening}
@@ -37,7 +37,7 @@ pub runs_told : (v : List (Piece Event)) → runs_of (told_of v) ≡ runs_of v
 runs_told [] = refl
 runs_told (x ∷ xs) = ap (λ l. run_told x.event x.seen ∷ l) (runs_told xs)
 
-module _ {opening : Opening} {owns : Bool} where
+module _ (opening : Opening) (owns : Bool) where
   pub all_told : (v : List (Piece Event)) → AllByRecursion (Tells opening owns) v → AllByRecursion (Tells opening false) (told_of v)
   all_told [] all = tt
   all_told (x ∷ xs) all =
@@ -92,13 +92,13 @@ module _ {opening : Opening} {owns : Bool} where
       let seen : IsBehind (run_told x.event x.seen) x.seen = subst (λ l. IsBehind l x.seen) (sym (told_is x t)) (dropped (length x.seen - t.number) x.seen) in
       ((omega arith, goes_further seen (goes_anywhere touches f.0)), each_behind past xs all.1 f.1)
 
-module _ {opening : Opening} where
+module _ (opening : Opening) where
   owners_are : (n : ℕ) (v : List (Piece Event)) → AllByRecursion (Tells opening true) v → times length n (runs_of v) ≡ owners n v
   owners_are n [] all = refl
   owners_are n (x ∷ xs) all =
       let t = all.0 in
       let rest = owners_are n xs all.1 in
-      let run : cond {A = ℕ} (length (run_told x.event x.seen) == n) 1 0 ≡ cond {A = ℕ} (t.number == n) 1 0 = ap (λ k. cond {A = ℕ} (k == n) 1 0) (told_length x t) in
+      let run : cond {A = ℕ} (length (run_told x.event x.seen) == n) 1 0 ≡ cond {A = ℕ} (t.number == n) 1 0 = ap (λ k. cond {A = ℕ} (k == n) 1 0) (told_length opening true x t) in
       let own : owners n (x ∷ []) ≡ cond {A = ℕ} (t.number == n) 1 0 + 0 = ap (λ y. owners n (y ∷ [])) t.is in
       omega arith
 
@@ -106,7 +106,7 @@ module _ {opening : Opening} where
   pub stand_in : (past : List Event) (v : List (Piece Event)) → AllByRecursion (Tells opening true) v → AllFit touches past v → ((n : ℕ) → owners n v ≤ 1)
       → StandIn past (runs_of v)
   stand_in past v all f once = record {
-    each = each_behind past v all f;
+    each = each_behind opening true past v all f;
     once = λ n. let same = owners_are n v all in let one = once n in omega arith;
   }
 
@@ -116,19 +116,19 @@ seen_length past (x ∷ xs) = ap suc (seen_length past xs)
 
 -- ---- parts that were taken in, and have looked at the run since
 
-module _ {opening : Opening} {table : TableId} {v rs all w : List (Piece Event)} {n : ℕ} (joined : all ≡ v ++ rs) (one : AllByRecursion (Tells opening true) v)
+module _ (opening : Opening) (v rs all w : List (Piece Event)) (n : ℕ) (joined : all ≡ v ++ rs) (one : AllByRecursion (Tells opening true) v)
     (other : AllByRecursion (Tells opening true) rs) (counts : Counts (IsRun opening) touches all n w) where
   both : AllByRecursion (Tells opening true) all
   both = subst (λ u. AllByRecursion (Tells opening true) u) (sym joined) (all_append (Tells opening true) v rs one other)
 
-  pub taken_tell : (part : Part Event) → part.token.table_id ≡ table → part.token.me.0 ≡ w → AllTell opening table true part
+  pub taken_tell : {table : TableId} (part : Part Event) → part.token.table_id ≡ table → part.token.me.0 ≡ w → AllTell opening table true part
   taken_tell part of_table is = record {
     of_table = of_table;
-    each = subst (λ u. AllByRecursion (Tells opening true) u) (sym (is ∙ counts.seen)) (all_seen counts.past all counts.run both counts.fits);
+    each = subst (λ u. AllByRecursion (Tells opening true) u) (sym (is ∙ counts.seen)) (all_seen opening true counts.past all counts.run both counts.fits);
   }
 
   pub taken_runs : runs_of w ≡ runs_of v ++ runs_of rs
-  taken_runs = ap runs_of counts.seen ∙ runs_seen counts.past all both counts.fits ∙ ap runs_of joined ∙ runs_append v rs
+  taken_runs = ap runs_of counts.seen ∙ runs_seen opening true counts.past all both counts.fits ∙ ap runs_of joined ∙ runs_append v rs
 
   pub taken_length : length w ≡ length v + length rs
   taken_length = ap length counts.seen ∙ seen_length counts.past all ∙ ap length joined ∙ length-append v rs
@@ -136,11 +136,43 @@ module _ {opening : Opening} {table : TableId} {v rs all w : List (Piece Event)}
   -- they are no more than the run has events
   pub taken_few : length v + length rs ≤ n
   taken_few =
-      let less = stand_few counts.past (runs_of all) (stand_in counts.past all both counts.fits counts.owned) in
+      let less = stand_few counts.past (runs_of all) (stand_in opening counts.past all both counts.fits counts.owned) in
       let many : length (runs_of all) ≡ length all = length-map all (λ x. run_told x.event x.seen) in
       let parts : length all ≡ length v + length rs = ap length joined ∙ length-append v rs in
       let number = counts.number in
       omega arith
+
+-- ---- parts that have looked at the run together with what was seen of it
+
+module _ (opening : Opening) (seen : List Event) (v all w : List (Piece Event)) (n : ℕ) (joined : all ≡ witness seen ∷ v)
+    (tell : AllByRecursion (Tells opening true) v) (counts : Counts (IsRun opening) touches all n w) where
+  fits : AllFit touches counts.past (witness seen ∷ v)
+  fits = subst (λ u. AllFit touches counts.past u) joined counts.fits
+
+  looked : w ≡ witness counts.past ∷ with_seen counts.past v
+  looked = counts.seen ∙ ap (λ u. with_seen counts.past u) joined
+
+  pub looked_tell : {table : TableId} (part : Part Event) → part.token.table_id ≡ table → part.token.me.0 ≡ others_of w → AllTell opening table true part
+  looked_tell part of_table is = record {
+    of_table = of_table;
+    each = subst (λ u. AllByRecursion (Tells opening true) u) (sym (is ∙ ap others_of looked)) (all_seen opening true counts.past v counts.run tell fits.1);
+  }
+
+  pub looked_length : length (others_of w) ≡ length v
+  looked_length = ap (λ u. length (others_of u)) looked ∙ seen_length counts.past v
+
+  pub looked_runs : runs_of (others_of w) ≡ runs_of v
+  looked_runs = ap (λ u. runs_of (others_of u)) looked ∙ runs_seen opening true counts.past v tell fits.1
+
+  pub looked_seen : (part : Part Event) → part.token.me.0 ≡ first_of w → seen_of part.token.me.0 ≡ counts.past
+  looked_seen part is = ap seen_of is ∙ ap (λ u. seen_of (first_of u)) looked
+
+  pub looked_stand : (now : List Event) → now ≡ counts.past → StandIn now (runs_of v)
+  looked_stand now is =
+      subst (λ l. StandIn l (runs_of v)) (sym is) (stand_in opening counts.past v tell fits.1 (λ k.
+      let whole : owners k all ≡ owners k (witness seen ∷ v) = ap (λ u. owners k u) joined in
+      let one = counts.owned k in
+      omega arith))
 
 -- a receipt's part
 pub owner_tells : {opening : Opening} {table : TableId} (part : Part Event) (run : List Event) → part.token.table_id ≡ table
@@ -156,9 +188,9 @@ owner_run v run is = ap runs_of is ∙ ap (λ l. l ∷ []) (whole_at run)
 -- what tells of events has told them
 pub told_tell : {opening : Opening} {table : TableId} {owns : Bool} (old new : Part Event) → AllTell opening table owns old → new.token.table_id ≡ table
     → new.token.me.0 ≡ told_of old.token.me.0 → AllTell opening table false new
-told_tell {opening} old new tell of_table is = record {
+told_tell {opening} {owns = owns} old new tell of_table is = record {
   of_table = of_table;
-  each = subst (λ u. AllByRecursion (Tells opening false) u) (sym is) (all_told old.token.me.0 tell.each);
+  each = subst (λ u. AllByRecursion (Tells opening false) u) (sym is) (all_told opening owns old.token.me.0 tell.each);
 }
 
 pub same_tell : {opening : Opening} {table : TableId} {owns : Bool} (old new : Part Event) → AllTell opening table owns old → new.token.table_id ≡ table

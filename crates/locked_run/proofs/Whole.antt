@@ -33,27 +33,29 @@ down (suc m) = suc m ∷ down m
 
 left_out : (j : ℕ) (ns : List ℕ) → length ns ≡ alike j ns + length (without j ns)
 left_out j [] = refl
-left_out j (n ∷ ns) = of (n == j)
+left_out j (n ∷ ns) = of (n == j) (left_out j ns)
   where
-    of : (b : Bool) → suc (length ns) ≡ (cond {A = ℕ} b 1 0 + alike j ns) + length (cond b (without j ns) (n ∷ without j ns))
-    of true = let rest = left_out j ns in omega arith
-    of false = let rest = left_out j ns in omega arith
+    of : (b : Bool) → length ns ≡ alike j ns + length (without j ns)
+        → suc (length ns) ≡ (cond {A = ℕ} b 1 0 + alike j ns) + length (cond b (without j ns) (n ∷ without j ns))
+    of true rest = omega arith
+    of false rest = omega arith
 
 no_more : (i j : ℕ) (ns : List ℕ) → alike i (without j ns) ≤ alike i ns
 no_more i j [] = omega arith
-no_more i j (n ∷ ns) = of (n == j)
+no_more i j (n ∷ ns) = of (n == j) (no_more i j ns)
   where
-    of : (b : Bool) → alike i (cond b (without j ns) (n ∷ without j ns)) ≤ cond {A = ℕ} (n == i) 1 0 + alike i ns
-    of true = let rest = no_more i j ns in omega arith
-    of false = let rest = no_more i j ns in omega arith
+    of : (b : Bool) → alike i (without j ns) ≤ alike i ns
+        → alike i (cond b (without j ns) (n ∷ without j ns)) ≤ cond {A = ℕ} (n == i) 1 0 + alike i ns
+    of true rest = omega arith
+    of false rest = omega arith
 
 below : (m : ℕ) (ns : List ℕ) → Within (suc m) ns → Within m (without (suc m) ns)
 below m [] all = tt
-below m (n ∷ ns) all = of (n == suc m) refl
+below m (n ∷ ns) all = of (n == suc m) refl (below m ns all.1)
   where
-    of : (b : Bool) → (n == suc m) ≡ b → Within m (cond b (without (suc m) ns) (n ∷ without (suc m) ns))
-    of true is = below m ns all.1
-    of false is = let apart = eqb-false n (suc m) is in let last = all.0.1 in ((all.0.0, omega arith), below m ns all.1)
+    of : (b : Bool) → (n == suc m) ≡ b → Within m (without (suc m) ns) → Within m (cond b (without (suc m) ns) (n ∷ without (suc m) ns))
+    of true is rest = rest
+    of false is rest = let apart = eqb-false n (suc m) is in let last = all.0.1 in ((all.0.0, omega arith), rest)
 
 -- so many numbers, of which none stands twice, are no more than there are
 few : (m : ℕ) (ns : List ℕ) → Within m ns → ((j : ℕ) → alike j ns ≤ 1) → length ns ≤ m
@@ -67,23 +69,24 @@ few (suc m) ns all once =
 
 none_out : (j : ℕ) (ns : List ℕ) → alike j ns ≡ 0 → without j ns ≡ ns
 none_out j [] none = refl
-none_out j (n ∷ ns) none = of (n == j) none
+none_out j (n ∷ ns) none = of (n == j) none (λ h. none_out j ns h)
   where
-    of : (b : Bool) → cond {A = ℕ} b 1 0 + alike j ns ≡ 0 → cond b (without j ns) (n ∷ without j ns) ≡ n ∷ ns
-    of true h = absurd (omega arith)
-    of false h = ap (λ l. n ∷ l) (none_out j ns (omega arith))
+    of : (b : Bool) → cond {A = ℕ} b 1 0 + alike j ns ≡ 0 → (alike j ns ≡ 0 → without j ns ≡ ns) → cond b (without j ns) (n ∷ without j ns) ≡ n ∷ ns
+    of true h rest = absurd (omega arith)
+    of false h rest = ap (λ l. n ∷ l) (rest (omega arith))
 
 -- a number that stands once, and the others
 front : (j : ℕ) (ns : List ℕ) → alike j ns ≡ 1 → IsPermutation ns (j ∷ without j ns)
 front j [] one = absurd (omega arith)
-front j (n ∷ ns) one = of (n == j) refl one
+front j (n ∷ ns) one = of (n == j) refl one (λ h. front j ns h)
   where
-    of : (b : Bool) → (n == j) ≡ b → cond {A = ℕ} b 1 0 + alike j ns ≡ 1 → IsPermutation (n ∷ ns) (j ∷ cond b (without j ns) (n ∷ without j ns))
-    of true is h =
+    of : (b : Bool) → (n == j) ≡ b → cond {A = ℕ} b 1 0 + alike j ns ≡ 1 → (alike j ns ≡ 1 → IsPermutation ns (j ∷ without j ns))
+        → IsPermutation (n ∷ ns) (j ∷ cond b (without j ns) (n ∷ without j ns))
+    of true is h others =
         let rest = none_out j ns (omega arith) in
         subst (λ l. IsPermutation (n ∷ ns) l) (ap₂ (λ (k : ℕ) (l : List ℕ). k ∷ l) (eqb-true n j is) (sym rest)) (IsPermutation-refl (n ∷ ns))
-    of false is h =
-        IsPermutation-trans (n ∷ ns) (n ∷ j ∷ without j ns) (j ∷ n ∷ without j ns) (IsPermutation-cons n ns (j ∷ without j ns) (front j ns (omega arith)))
+    of false is h others =
+        IsPermutation-trans (n ∷ ns) (n ∷ j ∷ without j ns) (j ∷ n ∷ without j ns) (IsPermutation-cons n ns (j ∷ without j ns) (others (omega arith)))
         (IsPermutation-middle (n ∷ []) j (without j ns))
 
 -- and if they are as many, they are all
