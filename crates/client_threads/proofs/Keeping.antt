@@ -56,22 +56,19 @@ module _ {K E F : Type 0} (opening : Opening) (lists : OpeningLists) (step : Ste
 
 -- ---- the calls of a caller
 
--- There is room for a receipt, a step is answered, and its receipt is kept.
-module _ {K E F : Type 0} (lists left : OpeningLists) (old room new : List (List Event)) (step : Step) (answered : Result (Answered K) E)
-    (result : Result Answer F) (calls : left ≡ lists) (same : room ≡ old) (given : IfOk answered (λ a. acting.IsAnswered (opening_in lists) step a.answer a.receipt a.seen))
-    (kept : IsKept answered result room new) where
-  kept_here : IsKept answered result old new
-  kept_here = subst (λ l. IsKept answered result l new) same kept
-
+-- A step is answered, and its receipt is kept.
+module _ {K E F : Type 0} (lists left : OpeningLists) (old new : List (List Event)) (step : Step) (answered : Result (Answered K) E)
+    (result : Result Answer F) (calls : left ≡ lists) (given : IfOk answered (λ a. acting.IsAnswered (opening_in lists) step a.answer a.receipt a.seen))
+    (kept : IsKept answered result old new) where
   pub step_answered : IfOk result (IsAnswered lists step)
-  step_answered = is_answered (opening_in lists) lists step answered old new refl given result kept_here
+  step_answered = is_answered (opening_in lists) lists step answered old new refl given result kept
 
   pub step_after : IfOk result (λ answer. run_of left new ≡ world_after (run_of lists old) step answer)
   step_after =
       subst (λ l. IfOk result (λ answer. run_of l new ≡ world_after (run_of lists old) step answer)) (sym calls)
-      (is_after (opening_in lists) lists step answered old new refl given result kept_here)
+      (is_after (opening_in lists) lists step answered old new refl given result kept)
 
   pub step_same : OnErr result (run_of left new ≡ run_of lists old)
   step_same =
       subst (λ l. OnErr result (run_of l new ≡ run_of lists old)) (sym calls)
-      (is_same (opening_in lists) lists step answered old new refl given result kept_here)
+      (is_same (opening_in lists) lists step answered old new refl given result kept)

@@ -31,10 +31,10 @@ loop-name-preserved g c =
           makes_through names names _ _ _ l.invariant.makes
           (learned l.self.calls.now.opening.now c.learn.new.self.calls.now.opening.now names (ended_name arm.arm) l.self.receipts arm.receipts
           c.learn.new.self.receipts (ap (λ k. k.opening.now) c.learn.ensures.calls) (one_of_names names l.name-index (ended_name arm.arm) at)
-          c.in_ok-arm-in-Some.ensures.receipts arm.own arm.commits);
+          c.learn.ensures.receipts arm.own arm.commits);
       count = ap length c.push_reserved.ensures.items ∙ length_push l.ended.items _ ∙ ap (λ n. n + 1) l.invariant.count;
       room = search rules;
       ended =
-          ap ended_names (c.push_reserved.ensures.items ∙ ap (λ x. l.ended.items ++ x ∷ []) c.in_ok-arm-in-Some.ensures.arm)
+          ap ended_names (c.push_reserved.ensures.items ∙ ap (λ x. l.ended.items ++ x ∷ []) c.learn.ensures.arm)
           ∙ ended_more names l.ended.items l.name-index arm.arm l.invariant.ended at;
     }
