@@ -226,7 +226,7 @@ fn run_within<
 ) -> Result<Done<K>, Fault>
     requires opening { opening_in opening.now ≡ K.opening }
     requires script { IsResolved script.now }
-    ensures did { IfOk result (λ r. AllDid script.now.clients r.0.items r.1.items) }
+    ensures did { IfOk result (λ r. AllDid script.now.clients r.0.items r.1) }
     ensures fault { IfErr result IsOfThreads }
 {
     let watched = Watched::new();
@@ -257,7 +257,7 @@ struct RunsAll<'a> {
 
 impl<'a, K: OfRun> Promise<Result<Done<K>, StepFault>> for RunsAll<'a> {
     ghost kept_by = { λ it done. IfOk done
-        (λ r. AllDid it.script.now.clients r.0.items r.1.items) };
+        (λ r. AllDid it.script.now.clients r.0.items r.1) };
 }
 
 /// Runs the clients in a thread, and watches them. If no thread can be made, runs them here, and nobody watches.
@@ -271,13 +271,13 @@ fn run_watched<
 >(clients: &Clients<'_, K, R, G, P, H>, watcher: Watcher<'_, C>) -> Result<Done<K>, StepFault>
     requires opening { opening_in clients.now.opening.now ≡ K.opening }
     requires script { IsResolved clients.now.script.now }
-    ensures { IfOk result (λ r. AllDid clients.now.script.now.clients r.0.items r.1.items) }
+    ensures { IfOk result (λ r. AllDid clients.now.script.now.clients r.0.items r.1) }
 {
     let run = move || -> Result<Done<K>, StepFault>
         requires opening { opening_in clients.now.opening.now ≡ K.opening }
         requires script { IsResolved clients.now.script.now }
         ensures { IfOk result
-            (λ r. AllDid clients.entry.now.script.now.clients r.0.items r.1.items) }
+            (λ r. AllDid clients.entry.now.script.now.clients r.0.items r.1) }
     { run_all(clients) };
     let promise = RunsAll {
         script: clients.script,
@@ -295,7 +295,7 @@ fn run_all<
 >(clients: &Clients<'_, K, R, G, P, H>) -> Result<Done<K>, StepFault>
     requires opening { opening_in clients.now.opening.now ≡ K.opening }
     requires script { IsResolved clients.now.script.now }
-    ensures { IfOk result (λ r. AllDid clients.now.script.now.clients r.0.items r.1.items) }
+    ensures { IfOk result (λ r. AllDid clients.now.script.now.clients r.0.items r.1) }
 {
     let done = run_clients(
         clients.alloc,
