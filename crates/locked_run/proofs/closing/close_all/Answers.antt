@@ -11,7 +11,7 @@ returns-then-len-events-clause-unclosed g c =
     let counts = subst (λ p. Counts (IsRun p) touches v c.count-events.result c.count-events.new.part.token.me.0) c.args.shared.opening c.count-events.ensures.counted in
     are_missing g.G.Guardian.stands g.G.Guardian.stored g.R.Forest.stands c.settle_all-part.result.1 c.in_ok-guardians.ensures.sorted
     (c.in_ok-guardians.ensures.count ∙ c.requires.all) c.settle_all-part.ensures.parts.1 c.settle_all-part.ensures.there c.settle_all-part.ensures.each counts
-    c.args.receipts (λ same. c.if-len-events.true (c.len.ensures ∙ same))
+    c.args.receipts (λ same. c.if-len-events.true (c.len-2.ensures ∙ same))
 
 pub returns-clause-closed : goal.returns-clause-closed
 returns-clause-closed g c =
@@ -19,4 +19,4 @@ returns-clause-closed g c =
     let counts = subst (λ p. Counts (IsRun p) touches v c.count-events.result c.count-events.new.part.token.me.0) c.args.shared.opening c.count-events.ensures.counted in
     is_closed g.G.Guardian.stands g.G.Guardian.stored g.R.Forest.stands c.settle_all-part.result.1 c.in_ok-guardians.ensures.sorted
     (c.in_ok-guardians.ensures.count ∙ c.requires.all) c.settle_all-part.ensures.parts.1 c.settle_all-part.ensures.there c.settle_all-part.ensures.each counts
-    c.args.receipts (sym c.len.ensures ∙ c.if-len-events.false) c.count_with.ensures
+    c.args.receipts (sym c.len-2.ensures ∙ c.if-len-events.false) c.count_with.ensures
