@@ -1,4 +1,4 @@
-use Rattle.std.proofs.Common.{IfOk, List, ap, subst, sym}
+use Rattle.std.proofs.Common.{IfOk, List, subst, sym}
 use Rattle.run_model.specs.declared.history.Event.{Event}
 use Rattle.activities.specs.Ends.{ClientMade}
 use Rattle.client_threads.specs.Callers.{run_of}
