@@ -9,16 +9,22 @@ ghost use Rattle.world_steps.specs.Standings.{IsWorld};
 ghost use Rattle.world.specs.Worlds.{seen_of};
 
 use crate::runs::{Parts, Threaded, end, opened, setup_of};
+use guardian::Guardian;
+use registry::Registry;
 use rows::RowFault;
 use run_model::{ObjectId, Op, Opening, Reply, Value};
 use runtime::{Endless, OfRun, OpenGate, Receipts};
-use service::{Begun, CallFault, Cause, Outcome, RunsArms, Service, Transacted, Transaction, Work};
+use service::{Begun, CallFault, Cause, Outcome, Service, Transacted, Transaction, Work};
 use sessions::Session;
+use stable_store::PlainStable;
 use std::alloc::Global;
 use std::marker::Brand;
 use std::sync::Wait;
 use std::thread::{Threads, map_indices};
 use stepping::MakesOwnSteps;
+
+/// The session of a thread that moves coins.
+type Moving<'a, K, H> = Session<'a, K, Registry, Guardian<PlainStable>, OpenGate, Endless, H>;
 
 /// How many guardians there are. Each has a purse.
 const PURSES: u32 = 4;
@@ -44,13 +50,6 @@ const PAIRS: usize = 2;
 struct Move {
     from: u32,
     to: u32,
-}
-
-/// A coin goes as well, but it is taken and put by two arms at once.
-#[derive(Drop)]
-struct MoveAtOnce {
-    alloc: Global,
-    coin: Move,
 }
 
 /// What a guardian does with its purse.
@@ -97,20 +96,6 @@ impl<W: MakesOwnSteps + Drop> Work<W> for Move {
             tx.call(self.to, &mut put)?;
             tx.call(self.from, &mut take)
         }
-    }
-}
-
-impl<W: RunsArms> Work<W> for MoveAtOnce {
-    type Value = ();
-
-    type Error = MoveFault;
-
-    fn run<B: Begun>(&mut self, tx: &mut Transaction<'_, W, B>) -> Result<(), MoveFault> {
-        let mut take = Calls(Change::Take(self.coin.from));
-        let mut put = Calls(Change::Put(self.coin.to));
-        let (taken, put) = tx.together(self.alloc, &mut take, &mut put)?;
-        taken?;
-        put
     }
 }
 
@@ -279,20 +264,20 @@ fn move_in_pair<K: OfRun + Send + Sync, H: Threads + Wait + Sync>(
         } else {
             (second, first)
         };
-        let mut coin = MoveAtOnce {
-            alloc,
-            coin: Move { from, to },
-        };
-        let Transacted { outcome, left: _ } = service.transact(alloc, from, &mut coin);
+        let mut take = Calls(Change::Take(from));
+        let mut put = Calls(Change::Put(to));
+        let Transacted { outcome, left: _ } = service.transact_together(
+            alloc, from, &mut take, &mut put,
+        );
         settle(outcome)?;
     }
     Ok(service.world.into_receipts())
 }
 
 /// Whether the coin went, or there was none.
-fn settle(outcome: Outcome<(), MoveFault>) -> Result<(), RowFault> {
+fn settle<T: Drop>(outcome: Outcome<T, MoveFault>) -> Result<(), RowFault> {
     match outcome {
-        Outcome::Committed(()) | Outcome::Aborted(Cause::Work(MoveFault::Empty)) => Ok(()),
+        Outcome::Committed(_) | Outcome::Aborted(Cause::Work(MoveFault::Empty)) => Ok(()),
         Outcome::Aborted(_) => Err(RowFault::Unread),
     }
 }
