@@ -60,11 +60,11 @@ fn is_value(part: &Part) -> bool
 }
 
 /// Installs the parts over the base, which are values of objects that it has, and copies none. This takes no memory.
-pub fn move_over(base: &mut BTreeMap<u32, Part>, mut parts: BTreeMap<u32, Part>)
+pub fn move_over(base: &mut BTreeMap<u32, Part>, parts: BTreeMap<u32, Part>)
     requires { CanMove parts.entries (parts_in base.old) }
     ensures { parts_in base.new ≡ laid parts.entries (parts_in base.old) }
 {
-    while let Some((object, part)) = parts.pop_first() {
+    for (object, part) in parts {
         restore(base, object, Some(part));
     }
 }
@@ -131,8 +131,9 @@ fn restore(base: &mut BTreeMap<u32, Part>, object: u32, before: Option<Part>)
 {
     match before {
         Some(part) => {
-            let replaced: Result<_, _> = base.insert(object, part);
-            drop(replaced.unwrap());
+            if let Some(held) = base.get_mut(&object) {
+                *held = part;
+            }
         }
         None => drop(base.remove(&object)),
     }

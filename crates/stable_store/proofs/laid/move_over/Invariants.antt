@@ -1,4 +1,4 @@
-use Rattle.std.proofs.Common.{◌≡◌, length}
+use Rattle.std.proofs.Common.{◌≡◌}
 use Rattle.stable_store.specs.Stored.{laid}
 use Rattle.stable_store.specs.Held.{parts_in}
 use Rattle.stable_store.specs.Moved.{CanMove}
@@ -7,9 +7,6 @@ use Rattle.stable_store.proofs.laid.move_over.Given as goal
 -- what is left can be moved, and with it all is laid
 abbrev pub invariant-loop-object : goal.invariant-loop-object
 invariant-loop-object l = record {
-  can : CanMove l.parts.entries (parts_in l.base);
-  same : laid l.parts.entries (parts_in l.base) ≡ laid l.fn.parts.entries (parts_in l.fn.base);
+  can : CanMove l.object-iterator (parts_in l.base);
+  same : laid l.object-iterator (parts_in l.base) ≡ laid l.fn.parts.entries (parts_in l.fn.base);
 }
-
-abbrev pub decreases-loop-object : goal.decreases-loop-object
-decreases-loop-object l = length l.parts.entries
