@@ -28,7 +28,7 @@ pub record IsTried (alone : Type 0) (fails : Fault → Type 0) (step : Step)
   pub failed : IfErr result (IsCause fails)
   pub over : EndOrFail alone fails [] old new
 
--- Steps of a top action, which may commit it, came to this result. Where nobody else makes steps, that is what is wanted.
+-- Steps of a top action, which may commit it, came to this result. If nobody else makes steps, that is what is wanted.
 pub record ComesTo (alone : Type 0) (fails : Fault → Type 0) (top : Name) (wanted : World → Tried)
     (result : Result Bool Fault) (old new : World) : Type 0 where
   pub makes : Makes (top ∷ []) (top ∷ []) old new
