@@ -15,7 +15,7 @@ invariant_of-self g c =
     ∙ ap (λ u. witness c.args.seen ∷ u) c.take-own.ensures.taken in
     let counts = subst (λ p. Counts (IsRun p) touches c.join.new.part.token.me.0 c.count.result c.count.new.part.token.me.0) c.args.shared.now.opening c.count.ensures.counted in (
       looked_tell o c.args.seen v _ _ _ all c.self.invariant.0.each counts c.split.result
-      (c.split.ensures.of.1 ∙ c.count.ensures.of ∙ c.join.ensures.of ∙ c.into_part-part.ensures.table) c.split.ensures.others,
+          (c.split.ensures.of.1 ∙ c.count.ensures.of ∙ c.join.ensures.of ∙ c.into_part-part.ensures.table) c.split.ensures.others,
       c.self.invariant.1 ∙ sym (ap length c.split.ensures.others ∙ looked_length o c.args.seen v _ _ _ all c.self.invariant.0.each counts),
     )
 

@@ -25,7 +25,7 @@ invariant_of-self g c =
     let own = c.self.invariant.1 in
     let other = c.requires.count in (
       taken_tell o c.self.inside.part.token.me.0 c.args.part.token.me.0 _ _ _ c.join.ensures.both c.self.invariant.0.each c.requires.tell.each counts c.count.new.part
-      (c.count.ensures.of ∙ c.join.ensures.of ∙ c.self.invariant.0.of_table) refl,
+          (c.count.ensures.of ∙ c.join.ensures.of ∙ c.self.invariant.0.of_table) refl,
       omega arith,
     )
 
