@@ -10,7 +10,7 @@ use Rattle.run_model.specs.Runs.{World, history_after, world_after}
 use Rattle.locked_run.specs.Acting as acting
 use Rattle.runtime.specs.declared.answered.Answered.{Answered}
 use Rattle.runtime.specs.Receipts.{IsKept, events_of}
-use Rattle.runtime.proofs.Receipts.{events_of-append, kept_events}
+use Rattle.runtime.proofs.Events.{events_of-append, kept_events}
 use Rattle.activities.specs.Making.{IsAnswered}
 use Rattle.client_threads.specs.Callers.{run_of}
 

@@ -31,7 +31,7 @@ use Rattle.client_threads.specs.declared.clients.DoneClient.{DoneClient}
 use Rattle.client_threads.specs.Callers.{run_of}
 use Rattle.client_threads.specs.Clients.{AllDid, AreDone, ClientDid, IsDone, IsDoneAt, top_event}
 use Rattle.runtime.specs.Receipts.{events_of}
-use Rattle.runtime.proofs.Receipts.{events_of-append}
+use Rattle.runtime.proofs.Events.{events_of-append}
 
 -- ---- facts that crossed a channel
 
