@@ -13,7 +13,7 @@ use Rattle.run_model.specs.declared.step.Step.{Step}
 use Rattle.run_model.specs.declared.step.Step.TheVariants as steps
 use Rattle.run_model.specs.Actions.{begun, is_aborted, is_begun, is_committed, is_ended, names_begun, next_number, step_commits, step_crashes}
 use Rattle.run_model.specs.Answers.{answer_of, outcome, refused_or}
-use Rattle.run_model.specs.Openings.{Opening, opening_in}
+use Rattle.run_model.specs.Openings.{Opening, OpeningLists, opening_in}
 use Rattle.run_model.specs.Refusals.{checks, first_refusal}
 use Rattle.run_model.specs.Runs.{history_after, is_accepted}
 use Rattle.run_model.specs.Telling.{told_since_crash}
@@ -324,12 +324,16 @@ both_began us vs old new a b t i = by (or_cases (has_name us t) (has_name vs t) 
 
 -- ---- runs that go on
 
+-- a run by its parts
+abbrev run_of : OpeningLists → List (List Event) → List Event → OwnRun
+run_of lists since past = record { lists = lists; past = past; since = since }
+
 -- the run once these events have happened
 same_run : (x y : OwnRun) (recent : List Event) → y.lists ≡ x.lists → y.since ≡ x.since → y.past ≡ recent ++ x.past
     → y ≡ record x { past = recent ++ x.past }
 same_run x y recent l s p =
-    ap₂ (λ lists past. record { lists = lists; past = past; since = y.since }) l p
-    ∙ ap (λ since. record { lists = x.lists; past = recent ++ x.past; since = since }) s
+    ap₂ (λ lists since. run_of lists since y.past) l s
+    ∙ ap (run_of x.lists x.since) p
 
 module _ (sees : Sees) where
   -- events of two parts
