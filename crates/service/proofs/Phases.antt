@@ -5,7 +5,6 @@ use Rattle.std.specs.Result.{IsErrAnd}
 use Rattle.action_names.specs.Names.{Name}
 use Rattle.committing.specs.TwoPhases.{AreTried, two_phases}
 use Rattle.run_laws.proofs.Names.{same_name_self}
-use Rattle.run_model.specs.declared.answer.Answer.TheVariants as answers
 use Rattle.run_model.specs.declared.step.Step.{Step}
 use Rattle.run_model.specs.declared.step.Step.TheVariants as steps
 use Rattle.stepping.specs.Beside.{IsMadeWith, OwnRun, Sees}
