@@ -68,6 +68,22 @@ pub record AreSiblings (a one other : Name) : Type 0 where
   pub one_apart : is_prefix one other ≡ false
   pub other_apart : is_prefix other one ≡ false
 
+-- a top action that begins later is above no action that began before
+own_apart : (sees : Sees) (mine : Step → Bool) (x : OwnRun) (recent : List Event) (n : ℕ) (s : Name) → AreOwn sees mine x recent
+    → is_begun (n ∷ []) recent ≡ true → is_begun s x.past ≡ true → is_prefix (n ∷ []) s ≡ false
+own_apart sees mine x [] n s own h k = absurd (false≢true h)
+own_apart sees mine x (e ∷ recent) n s own h k = elim (begun_cases e recent (n ∷ []) h) [
+  | inl j ↦
+      false_from_ne_true _ (λ above.
+      let given = own.2 in
+      let opening = opening_in x.lists in
+      let there = begun_seen given.part s (begun_stays s (followed recent x.past) k) in
+      clash j
+      (begun_once opening e given.seen (n ∷ []) (given.answered, own.1, given.run)
+      (ancestor_begun opening given.seen (n ∷ []) s given.run there above)))
+  | inr j ↦ own_apart sees mine x recent n s own.3 j k
+]
+
 module _ {sees : Sees} where
   pub siblings : (a one other : Name) (x begun : OwnRun) → BeginArms sees a one other x begun → AreSiblings a one other
   siblings a one other x begun begins =
@@ -96,28 +112,12 @@ module _ {sees : Sees} where
   arm_began a s t x begun begins home there b i =
       ap (λ (w : OwnRun). began_at home b w.past) begins.after ∙ or_left _ _ (and_from _ _ i there)
 
-  -- ---- top actions that begin later are above no action that began before
-
-  own_apart : (mine : Step → Bool) (x : OwnRun) (recent : List Event) (n : ℕ) (s : Name) → AreOwn sees mine x recent
-      → is_begun (n ∷ []) recent ≡ true → is_begun s x.past ≡ true → is_prefix (n ∷ []) s ≡ false
-  own_apart mine x [] n s own h k = absurd (false≢true h)
-  own_apart mine x (e ∷ recent) n s own h k = elim (begun_cases e recent (n ∷ []) h) [
-    | inl j ↦
-        false_from_ne_true _ (λ above.
-        let given = own.2 in
-        let opening = opening_in x.lists in
-        let there = begun_seen given.part s (begun_stays s (followed recent x.past) k) in
-        clash j
-        (begun_once opening e given.seen (n ∷ []) (given.answered, own.1, given.run)
-        (ancestor_begun opening given.seen (n ∷ []) s given.run there above)))
-    | inr j ↦ own_apart mine x recent n s own.3 j k
-  ]
-
+  -- so none that began in between is above one that began before
   pub top_apart : (mine : Step → Bool) (x y : OwnRun) (t s : Name) → Goes sees mine x y → Began t x y → is_begun s x.past ≡ true
       → is_prefix t s ≡ false
   top_apart mine x y t s a b k =
       subst (λ c. is_prefix c s ≡ false) (sym b.named)
-      (own_apart mine x a.later b.number s a.own
+      (own_apart sees mine x a.later b.number s a.own
       (subst (λ c. is_begun c a.later ≡ true) b.named
       (subst (λ recent. is_begun t recent ≡ true) (append_cancel_right b.recent a.later x.past (sym b.parts ∙ a.past)) b.begun)) k)
 

@@ -140,17 +140,18 @@ module _ (sees : Sees) (mine : Step → Bool) (x : OwnRun) (g : ℕ) (no_crash :
 
 -- ---- arms that were joined
 
+-- events of both, each of a kind by the arm that it is of
+pub own_merge : (sees : Sees) (p q mine : Step → Bool) → ((s : Step) → p s ≡ true → mine s ≡ true) → ((s : Step) → q s ≡ true → mine s ≡ true) → (x y : OwnRun)
+    {one other all : List Event} → IsMerge one other all → AreOwn sees any_step x all → AreOwn sees p y one → AreOwn sees q y other
+    → AreOwn sees mine x all
+own_merge sees p q mine f k x y of_neither own a b = tt
+own_merge sees p q mine f k x y (of_one e m) own a b = (f e.step a.0, own.1, own.2, own_merge sees p q mine f k x y m own.3 a.3 b)
+own_merge sees p q mine f k x y (of_other e m) own a b = (k e.step b.0, own.1, own.2, own_merge sees p q mine f k x y m own.3 a b.3)
+
 module _ {sees : Sees} where
   -- the events of a run that went on are known by its end
   pub own_at : (p : Step → Bool) (x y : OwnRun) (later : List Event) → Goes sees p x y → y.past ≡ later ++ x.past → AreOwn sees p x later
   own_at p x y later a e = subst (AreOwn sees p x) (append_cancel_right a.later later x.past (sym a.past ∙ e)) a.own
-
-  own_merge : (p q mine : Step → Bool) → ((s : Step) → p s ≡ true → mine s ≡ true) → ((s : Step) → q s ≡ true → mine s ≡ true) → (x y : OwnRun)
-      {one other all : List Event} → IsMerge one other all → AreOwn sees any_step x all → AreOwn sees p y one → AreOwn sees q y other
-      → AreOwn sees mine x all
-  own_merge p q mine f k x y of_neither own a b = tt
-  own_merge p q mine f k x y (of_one e m) own a b = (f e.step a.0, own.1, own.2, own_merge p q mine f k x y m own.3 a.3 b)
-  own_merge p q mine f k x y (of_other e m) own a b = (k e.step b.0, own.1, own.2, own_merge p q mine f k x y m own.3 a b.3)
 
   module _ (begun : OwnRun) (since : List (List Event)) (one other new : OwnRun) (j : AreJoined sees begun since one other new) where
     abbrev start : OwnRun
@@ -166,7 +167,7 @@ module _ {sees : Sees} where
         later = j.of_both.later;
         past = j.of_both.past;
         own =
-            own_merge p q mine f k begun start j.merge j.of_both.own (own_at p start one j.of_one.later a j.of_one.past)
+            own_merge sees p q mine f k begun start j.merge j.of_both.own (own_at p start one j.of_one.later a j.of_one.past)
             (own_at q start other j.of_other.later b j.of_other.past);
       }
 
