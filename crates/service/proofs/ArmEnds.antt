@@ -20,9 +20,9 @@ use Rattle.service.proofs.Undone.{if_error}
 use Rattle.service.proofs.Working.{failed_of}
 
 -- an error gives no value
-not_ok : {T E : Type 0} (r : Result T E) {P : E → Type 0} (So : Type 0) → IsErrAnd r P → OnOk r So
-not_ok (Ok x) So h = absurd h
-not_ok (Err x) So h = tt
+not_ok : {T E : Type 0} (r : Result T E) (P : E → Type 0) (So : Type 0) → IsErrAnd r P → OnOk r So
+not_ok (Ok x) P So h = absurd h
+not_ok (Err x) P So h = tt
 
 -- what is so anyway is so of a value
 pub if_value : {T E : Type 0} (r : Result T E) (So : Type 0) → So → OnOk r So
@@ -71,14 +71,14 @@ module _ {T E : Type 0} {sees : Sees} {comes : CallFault → E → Type 0} (at n
     reached = includes_same at.reached.items now.reached.items reached;
     ends = ends;
     gives = failed_of comes (ComesToNothing sees worked (steps.Commit at.action)) x result fault came why;
-    committed = not_ok result (is_committed at.action run.past ≡ true) came;
-    room = not_ok result (HasRoomAgain now.reached) came;
+    committed = not_ok result (comes fault) (is_committed at.action run.past ≡ true) came;
+    room = not_ok result (comes fault) (HasRoomAgain now.reached) came;
     undone = if_error result (Goes sees (settles at.action) worked run) undone;
   }
 
   -- the work gave an error, and the arm was aborted
   pub ended_err : (error : E) → Settles sees (settles at.action) worked run at.left now.left (EndedAndTold at.action at.home run)
-      → IsEndOf sees comes at now worked run (Err error) (Err error)
+      → IsEndOf {T = T} sees comes at now worked run (Err error) (Err error)
   ended_err error ends = record {
     action = same;
     reached = includes_same at.reached.items now.reached.items reached;

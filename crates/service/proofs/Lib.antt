@@ -2,7 +2,6 @@ pub mod Again
 pub mod Alone
 pub mod ArmEnds
 pub mod ArmsBegin
-pub mod ArmsRun
 pub mod BothArms
 pub mod BothRan
 pub mod CalledOff

@@ -1,4 +1,5 @@
-use Rattle.std.proofs.Common.{subst, sym}
+use Rattle.std.proofs.Common.{ap, subst, sym}
+use Rattle.std.specs.Result.{is_ok}
 use Rattle.run_model.specs.declared.step.Step.TheVariants as steps
 use Rattle.service.specs.Calling.{ComesToNothing}
 use Rattle.service.specs.Transacting.{EndedAndTold, finishes, settles}
@@ -8,7 +9,7 @@ use Rattle.service.proofs.Going.{settles_finishes, settles_wider}
 use Rattle.service.proofs.together.commit_if.Goals as goal
 
 pub returns-in-Ok-clause-room : goal.returns-in-Ok-clause-room
-returns-in-Ok-clause-room g c = if_value c.commit_and_tell.result.0 _ (search rules)
+returns-in-Ok-clause-room g c = if_value c.commit_and_tell.result.0 _ (ap (λ room. is_ok room) c.in-Ok.is)
 
 pub returns-in-Err-clause-ends : goal.returns-in-Err-clause-ends
 returns-in-Err-clause-ends g c =
