@@ -70,13 +70,6 @@ module _ {M : Type 0} (run : M → OwnRun) (sees : Sees) (leaves : Leaves M) (a 
     stores = tt;
   }
 
-  pub begins_by_both : (arms : Place × Place) → IsCall run sees leaves (arms_of a) BeganBoth old new (Ok arms)
-      → BeginArms sees a arms.0.action arms.1.action (run old) (run new)
-  begins_by_both (one, other) call = record {
-    answer = subst (IsAnsweredTo sees (run old) (arms_of a)) call.gives.shows call.gives.made.answered;
-    after = call.gives.made.after ∙ ap (λ answer. own_after (run old) (arms_of a) answer) call.gives.shows;
-  }
-
   -- a call of the two kinds that came to nothing
   pub none_of_two : (given : List ArmKind) (result : Result (Place × Place) CallFault) (fault : CallFault) → given ≡ kinds.Sub ∷ kinds.Sub ∷ []
       → IsErrAnd result (λ x. x ≡ fault) → IsCall run sees leaves (steps.Arms a given) BeganThese old new (Err fault)
@@ -89,11 +82,11 @@ module _ {M : Type 0} (run : M → OwnRun) (sees : Sees) (leaves : Leaves M) (a 
       (record { gives = tt; why = of.why; same = of.same; stores = of.stores })
 
   module _ (arms : Place × Place) (call : IsCall run sees leaves (arms_of a) BeganBoth old new (Ok arms)) where
-    -- at these places
-    pub begins_at_places : (one other : Place) → one ≡ arms.0 → other ≡ arms.1 → BeginArms sees a one.action other.action (run old) (run new)
-    begins_at_places one other p q =
-        subst (λ (o : Place). BeginArms sees a o.action other.action (run old) (run new)) (sym p)
-        (subst (λ (o : Place). BeginArms sees a arms.0.action o.action (run old) (run new)) (sym q) (begins_by_both arms call))
+    pub begins_by_both : BeginArms sees a arms.0.action arms.1.action (run old) (run new)
+    begins_by_both = record {
+      answer = subst (IsAnsweredTo sees (run old) (arms_of a)) call.gives.shows call.gives.made.answered;
+      after = call.gives.made.after ∙ ap (λ answer. own_after (run old) (arms_of a) answer) call.gives.shows;
+    }
 
     -- each at the action's home
     module _ (home : ℕ) (there : began_at home a (run old).past ≡ true) where
@@ -101,14 +94,11 @@ module _ {M : Type 0} (run : M → OwnRun) (sees : Sees) (leaves : Leaves M) (a 
           → began_at place.home place.action (run new).past ≡ true
       began_home place is same =
           subst (λ h. began_at h place.action (run new).past ≡ true) (sym same)
-          (arm_began {sees = sees} a arms.0.action arms.1.action (run old) (run new) (begins_by_both arms call) home there place.action is)
+          (arm_began {sees = sees} a arms.0.action arms.1.action (run old) (run new) begins_by_both home there place.action is)
 
-      pub one_there : (one : Place) → one ≡ arms.0 → arms.0.home ≡ home → began_at one.home one.action (run new).past ≡ true
-      one_there one p h =
-          subst (λ (o : Place). began_at o.home o.action (run new).past ≡ true) (sym p)
-          (began_home arms.0 (or_left _ _ (same_name_self arms.0.action)) h)
+      pub one_there : arms.0.home ≡ home → began_at arms.0.home arms.0.action (run new).past ≡ true
+      one_there h = began_home arms.0 (or_left _ _ (same_name_self arms.0.action)) h
 
-      pub other_there : (other : Place) → other ≡ arms.1 → arms.1.home ≡ home → began_at other.home other.action (run new).past ≡ true
-      other_there other q h =
-          subst (λ (o : Place). began_at o.home o.action (run new).past ≡ true) (sym q)
-          (began_home arms.1 (or_right (same_name arms.0.action arms.1.action) _ (or_left _ _ (same_name_self arms.1.action))) h)
+      pub other_there : arms.1.home ≡ home → began_at arms.1.home arms.1.action (run new).past ≡ true
+      other_there h =
+          began_home arms.1 (or_right (same_name arms.0.action arms.1.action) _ (or_left _ _ (same_name_self arms.1.action))) h

@@ -3,7 +3,7 @@ use Rattle.std.proofs.Common.{Bool, List, None, Option, Some, [], ap, arith, eqb
 use Rattle.std.proofs.lemmas.Bool.{and_from, and_parts, false_from_ne_true, false≢true, or_cases, or_left, or_right}
 use Rattle.std.proofs.lemmas.List.{append_cancel_right}
 use Rattle.std.specs.Option.{option_or}
-use Rattle.action_names.specs.Names.{Name, child_of, has_name, is_prefix, parent_of, same_name}
+use Rattle.action_names.specs.Names.{Name, child_of, has_name, is_prefix, same_name}
 use Rattle.run_model.specs.declared.answer.Answer.TheVariants as answers
 use Rattle.run_model.specs.declared.answer.Refusal.{Refusal}
 use Rattle.run_model.specs.declared.history.Event.{Event}
@@ -17,7 +17,7 @@ use Rattle.run_model.specs.Telling.{told_since_crash}
 use Rattle.run_model.specs.Votes.{step_votes}
 use Rattle.run_laws.proofs.Begun.{ancestor_begun, begun_cases, begun_once}
 use Rattle.run_laws.proofs.Growth.{begun_stays, followed}
-use Rattle.run_laws.proofs.Names.{clash, parent_child, same_name_self, same_name_true}
+use Rattle.run_laws.proofs.Names.{clash, same_name_self, same_name_true}
 use Rattle.stepping.specs.Beside.{OwnRun, Sees, started}
 use Rattle.service.specs.Arms.{AreJoined, any_step}
 use Rattle.service.specs.Together.{BeginArms, arms_of}
@@ -63,8 +63,6 @@ more_than_before n = false_from_ne_true _ (λ h. let e : suc n ≡ n = eqb-true 
 pub record AreSiblings (a one other : Name) : Type 0 where
   pub one_below : is_below a one ≡ true
   pub other_below : is_below a other ≡ true
-  pub one_child : parent_of one ≡ a
-  pub other_child : parent_of other ≡ a
   pub one_apart : is_prefix one other ≡ false
   pub other_apart : is_prefix other one ≡ false
 
@@ -93,8 +91,6 @@ module _ {sees : Sees} where
       record {
         one_below = subst (λ c. is_below a c ≡ true) (sym p) (child_below a n);
         other_below = subst (λ c. is_below a c ≡ true) (sym q) (child_below a (suc n));
-        one_child = ap parent_of p ∙ parent_child a n;
-        other_child = ap parent_of q ∙ parent_child a (suc n);
         one_apart =
             subst (λ c. is_prefix one c ≡ false) (sym q)
             (subst (λ c. is_prefix c (child_of a (suc n)) ≡ false) (sym p) (children_apart a n (suc n) (less_than_next n)));
@@ -145,7 +141,7 @@ module _ {sees : Sees} where
         (λ t i h. tops_commit_not b k t i step h) own)
         work.goes
 
-finishes_commits_no_other : (s b : Name) → is_prefix s b ≡ false → (step : Step) → finishes s step ≡ true → step_commits step b ≡ false
+pub finishes_commits_no_other : (s b : Name) → is_prefix s b ≡ false → (step : Step) → finishes s step ≡ true → step_commits step b ≡ false
 finishes_commits_no_other s b out (steps.Commit c) h =
     false_from_ne_true _ (λ p.
     clash (subst (λ d. is_prefix s d ≡ true) (same_name_true s c h ∙ same_name_true c b p) (prefix_self s)) out)

@@ -11,7 +11,7 @@ use Rattle.run_model.specs.declared.step.Step.TheVariants as steps
 use Rattle.run_model.specs.Actions.{is_committed}
 use Rattle.layer_contracts.specs.declared.guardian.Fault.{Fault}
 use Rattle.stepping.specs.Beside.{IsAnsweredTo, OwnRun, Sees, own_after, started}
-use Rattle.service.specs.Arms.{AreJoined}
+use Rattle.service.specs.Arms.{AreJoined, ArmDoes}
 use Rattle.service.specs.Calling.{ComesToNothing}
 use Rattle.service.specs.Transacting.{Began, Begins, EndedAndTold, Goes, Includes, Settles, Works, ends_top, finishes, settles}
 use Rattle.service.specs.Working.{Does, IsOutcomeOf, IsResultOf}
@@ -94,6 +94,10 @@ module _ {J T E : Type 0} (sees : Sees) (does : Does J T E) (comes : CallFault �
     pub reached : Includes at.reached.items left.reached.items
     pub works : ∥ Works sees at.action begun worked at.left left.left ∥₁
     pub ends : IsEndOf sees comes left now worked run done result
+
+  -- so an arm, which is its place and its work, gives this
+  abbrev pub GivesInArm : Result T E → ArmDoes (Place × J)
+  GivesInArm gave old begun new run = EndsArm old.0 new.0 begun run old.1 new.1 (Some gave)
 
 -- ---- both
 

@@ -4,9 +4,10 @@ ghost use Rattle.action_names.specs.Names.{Name as ActionName};
 ghost use Rattle.run_model.specs.Actions.{is_committed};
 ghost use Rattle.run_model.specs.declared.step.ArmKind.TheVariants as arm_kinds;
 ghost use Rattle.run_model.specs.declared.step.Step.TheVariants as steps;
+ghost use Rattle.service.specs.Arms.{HaveRun};
 ghost use Rattle.service.specs.Calling.{ComesToNothing, IsCall};
 ghost use Rattle.service.specs.Opening.{BeganBoth};
-ghost use Rattle.service.specs.Together.{HasRoomAgain, IsEndOf, RanNot, RanTogether, arms_of, settles_both};
+ghost use Rattle.service.specs.Together.{GivesInArm, HasRoomAgain, IsEndOf, RanNot, RanTogether, arms_of, settles_both};
 ghost use Rattle.service.specs.Transacting.{CommitsNoChild, EndedAndTold, Goes, Includes, Settles, Works, began_at, finishes, settles};
 
 use crate::arms::{Arm, RunsArms, run_arms};
@@ -16,6 +17,7 @@ use crate::service::Service;
 use crate::subactions::{abort_and_tell, commit_and_tell};
 use crate::transaction::{Work, work_in};
 use action_names::{Name, Names};
+use layer_contracts::Fault;
 use run_model::{ArmKind, ArmKinds};
 use std::alloc::{AllocError, Global};
 use std::marker::Brand;
@@ -24,10 +26,10 @@ use stepping::MakesOwnSteps;
 /// Work that is to run in an arm, or has run there.
 #[derive(Drop)]
 struct InArm<'j, W: MakesOwnSteps + Drop, J: Work<W>> {
-    at: Place,
+    at: &'j mut Place,
     work: &'j mut J,
     /// What came of the work, once it has run.
-    done: Option<Result<J::Value, J::Error>>,
+    done: &'j mut Option<Result<J::Value, J::Error>>,
 }
 
 impl<'j, W: MakesOwnSteps + Drop, J: Work<W>> Arm<W> for InArm<'j, W, J> {
@@ -35,16 +37,18 @@ impl<'j, W: MakesOwnSteps + Drop, J: Work<W>> Arm<W> for InArm<'j, W, J> {
     ghost use Rattle.service.specs.Together.{EndsArm};
     ghost use Rattle.service.specs.Transacting.{began_at};
 
-    ghost may_run = { λ arm begun. began_at arm.at.home arm.at.action begun.past ≡ true };
+    ghost may_run = { λ arm begun. began_at arm.at.now.home arm.at.now.action begun.past ≡ true };
 
-    ghost keeps = { λ old new. new.work.ghost_name ≡ old.work.ghost_name };
+    ghost keeps = { λ old new. (new.at.ghost_name ≡ old.at.ghost_name)
+        × (new.work.ghost_name ≡ old.work.ghost_name)
+        × (new.done.ghost_name ≡ old.done.ghost_name) };
 
-    ghost does = { λ old begun new run. EndsArm W.sees J.does J.Error.from_gives old.at new.at
-        begun run old.work.now new.work.now new.done };
+    ghost does = { λ old begun new run. EndsArm W.sees J.does J.Error.from_gives old.at.now
+        new.at.now begun run old.work.now new.work.now new.done.now };
 
     fn run(&mut self, service: &mut Service<W>) {
-        let done = work_in::<Brand, W, J>(service, &mut self.at, self.work);
-        self.done = Some(end_arm(service, &mut self.at, done));
+        let done = work_in::<Brand, W, J>(service, self.at, self.work);
+        *self.done = Some(end_arm(service, self.at, done));
     }
 }
 
@@ -155,35 +159,67 @@ where
         (W.run service.new.world)) }
     ensures same { OnErr result ((one.new ≡ one.old) × (other.new ≡ other.old)) }
 {
-    let (first, second) = begin_arms(service, at, alloc)?;
-    let mut first = in_arm(first, one);
-    let mut second = in_arm(second, other);
-    match run_arms(&mut service.world, &mut first, &mut second) {
-        Ok(()) => {
-            let gave = first.done.unwrap();
-            let also_gave = second.done.unwrap();
-            at.join(first.at, gave.is_ok(), second.at, also_gave.is_ok());
+    let (mut first, mut second) = begin_arms(service, at, alloc)?;
+    match run_in_arms(service, &mut first, one, &mut second, other) {
+        Ok((gave, also_gave)) => {
+            at.join(first, gave.is_ok(), second, also_gave.is_ok());
             Ok((gave, also_gave))
         }
         Err(fault) => {
-            call_off(service, at, &first.at.action, &second.at.action);
+            call_off(service, at, &first.action, &second.action);
             Err(CallFault::Failed(fault))
         }
     }
 }
 
-/// The work, before it runs in the arm.
-fn in_arm<'j, W: MakesOwnSteps + Drop, J: Work<W>>(at: Place, work: &'j mut J) -> InArm<'j, W, J>
-    ensures at { result.at ≡ at }
-    ensures same_work { result.work.ghost_name ≡ work.entry.ghost_name }
-    ensures before { result.work.now ≡ work.old }
-    ensures not_yet { result.done ≡ None }
+/// Runs two works at once, each in its arm. After an error neither has run.
+fn run_in_arms<W: RunsArms, A: Work<W> + Send, B: Work<W> + Send>(
+    service: &mut Service<W>,
+    first: &mut Place,
+    one: &mut A,
+    second: &mut Place,
+    other: &mut B,
+) -> Result<(Result<A::Value, A::Error>, Result<B::Value, B::Error>), Fault>
+where
+    A::Value: Send,
+    A::Error: Send,
+    B::Value: Send,
+    B::Error: Send,
+    requires first { began_at first.old.home first.old.action (W.run service.old.world).past
+        ≡ true }
+    requires second { began_at second.old.home second.old.action (W.run service.old.world).past
+        ≡ true }
+    ensures run { IfOk result (λ gave. HaveRun W.sees
+        (GivesInArm W.sees A.does A.Error.from_gives gave.0)
+        (GivesInArm W.sees B.does B.Error.from_gives gave.1) (W.run service.old.world)
+        (W.run service.new.world) (first.old, one.old) (first.new, one.new)
+        (second.old, other.old) (second.new, other.new)) }
+    ensures err { OnErr result (W.run service.new.world ≡ W.run service.old.world) }
+    ensures first { OnErr result (first.new ≡ first.old) }
+    ensures one { OnErr result (one.new ≡ one.old) }
+    ensures second { OnErr result (second.new ≡ second.old) }
+    ensures other { OnErr result (other.new ≡ other.old) }
 {
-    InArm {
-        at,
-        work,
-        done: None,
-    }
+    let (mut gave, mut also_gave) = (None, None);
+    let mut one = in_arm(first, one, &mut gave);
+    let mut other = in_arm(second, other, &mut also_gave);
+    run_arms(&mut service.world, &mut one, &mut other)?;
+    Ok((gave.unwrap(), also_gave.unwrap()))
+}
+
+/// The work, before it runs in the arm.
+fn in_arm<'j, W: MakesOwnSteps + Drop, J: Work<W>>(
+    at: &'j mut Place,
+    work: &'j mut J,
+    done: &'j mut Option<Result<J::Value, J::Error>>,
+) -> InArm<'j, W, J>
+    ensures same_place { result.at.ghost_name ≡ at.entry.ghost_name }
+    ensures same_work { result.work.ghost_name ≡ work.entry.ghost_name }
+    ensures same_done { result.done.ghost_name ≡ done.entry.ghost_name }
+    ensures at { result.at.now ≡ at.old }
+    ensures work { result.work.now ≡ work.old }
+{
+    InArm { at, work, done }
 }
 
 /// Begins two arms of the action at its home, once there is room for what each reaches.

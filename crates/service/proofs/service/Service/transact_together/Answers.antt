@@ -5,16 +5,13 @@ use Rattle.service.specs.Transacting.{began_at}
 use Rattle.service.proofs.Calls.{began_there, begins_by, top_transacted, unbegun}
 use Rattle.service.proofs.service.Service.transact_together.Goals as goal
 
-pub run_both-requires : goal.run_both-requires
-run_both-requires g c =
+pub run_both-requires-clause-there : goal.run_both-requires-clause-there
+run_both-requires-clause-there g c κs within =
     let run = g.W.MakesOwnSteps.run in
     let begun = c.begin_top.new.service.world in
-    record {
-      there =
-          subst (λ h. began_at h c.in-Ok.at.action (run begun).past ≡ true) (sym c.in-Ok.ensures.home)
-          (began_there run g.W.MakesOwnSteps.sees g.W.MakesOwnSteps.leaves (steps.Top c.args.home) c.args.home c.args.self.now.world begun c.in-Ok.at c.in-Ok.ensures.call
-          (eqb_self c.args.home));
-    }
+    subst (λ h. began_at h c.in-Ok.at.action (run begun).past ≡ true) (sym c.in-Ok.ensures.home)
+    (began_there run g.W.MakesOwnSteps.sees g.W.MakesOwnSteps.leaves (steps.Top c.args.home) c.args.home c.args.self.now.world begun c.in-Ok.at
+    c.in-Ok.ensures.call (eqb_self c.args.home))
 
 pub returns-in-Ok-clause-ended : goal.returns-in-Ok-clause-ended
 returns-in-Ok-clause-ended g c =
