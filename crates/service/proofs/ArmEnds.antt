@@ -1,5 +1,5 @@
 -- How an arm ends, by what came of its work.
-use Rattle.std.proofs.Common.{Err, List, Ok, Option, Result, ap, false, inl, refl, subst, sym, true, ℕ, ◌+◌, ◌≡◌, ◌≤◌}
+use Rattle.std.proofs.Common.{Err, List, Ok, Option, Result, ap, inl, refl, subst, sym, true, ℕ, ◌+◌, ◌≡◌, ◌≤◌}
 use Rattle.std.proofs.Math.Logic.{∥∥₁_map}
 use Rattle.std.proofs.lemmas.Bool.{false≢true}
 use Rattle.std.specs.Prelude.{OnOk, vec_capacity, vec_len}

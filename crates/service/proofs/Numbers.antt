@@ -1,6 +1,6 @@
 -- Numbers in a list to which some are added.
 use lib.Dec.{eqb}
-use Rattle.std.proofs.Common.{Err, List, Ok, Result, [], arith, eq-eqb, eqb-true, false, get_or, inl, inr, length, subst, suc, sym, true, zero, ℕ, ◌++◌, ◌<◌, ◌==◌, ◌∷◌, ◌≡◌}
+use Rattle.std.proofs.Common.{Err, List, Ok, Result, [], arith, eq-eqb, eqb-true, get_or, inl, inr, length, subst, suc, sym, true, zero, ℕ, ◌++◌, ◌<◌, ◌==◌, ◌∷◌, ◌≡◌}
 use Rattle.std.proofs.lemmas.Bool.{false≢true, or_cases, or_left, or_right}
 use Rattle.std.proofs.lemmas.List.Filters.{dedup_is}
 use Rattle.std.proofs.lemmas.List.Kept.{Contains-dedup_nat}
