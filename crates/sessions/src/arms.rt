@@ -65,7 +65,7 @@ fn both<K: OfRun, R: Forest, G: Guardian, P: Gate>(
 {
     match (one, other) {
         (Some(one), Some(other)) => Some(runtime.join(one, other)),
-        (one, None) => one,
+        (Some(one), None) => Some(one),
         (None, other) => other,
     }
 }
