@@ -1,5 +1,5 @@
 -- The session of an arm, as it begins; and two that have seen the run.
-use Rattle.std.proofs.Common.{List, None, Option, Some, [], ap, refl, subst, sym, ◌++◌, ◌∙◌, ◌≡◌}
+use Rattle.std.proofs.Common.{List, None, Option, Some, [], ap, subst, sym, ◌++◌, ◌∙◌, ◌≡◌}
 use Rattle.std.proofs.Math.Logic.{∥∥₁_map}
 use Rattle.std.proofs.lemmas.List.{append-nil}
 use Rattle.one_run.specs.Pieces.GoesOn.{stays}

@@ -1,6 +1,5 @@
 -- The own events of two threads that went on from one, together.
-use Rattle.std.proofs.Common.{Bool, List, Option, [], ap, arith, cond, false, length, refl, subst, suc, sym, true, ℕ, ◌+◌, ◌++◌, ◌<◌, ◌||◌, ◌∙◌, ◌∷◌, ◌≡◌, length-append}
-use Rattle.std.proofs.lemmas.Bool.{or_from, or_left, or_right}
+use Rattle.std.proofs.Common.{Bool, List, Option, [], ap, cond, false, length, refl, subst, suc, sym, true, ℕ, ◌++◌, ◌||◌, ◌∙◌, ◌∷◌, ◌≡◌}
 use Rattle.std.proofs.lemmas.List.{append_assoc, append_cancel_right}
 use Rattle.run_model.specs.declared.history.Event.{Event}
 use Rattle.run_model.specs.Openings.{Opening, OpeningLists, opening_in}
@@ -9,7 +8,7 @@ use Rattle.locked_run.specs.Behind.{IsBehind}
 use Rattle.stepping.specs.Beside.{IsPartOf, OwnRun, started}
 use Rattle.service.specs.Arms.{AreJoined, IsMerge, any_step, of_neither, of_one, of_other}
 use Rattle.service.specs.Transacting.{AreOwn, Goes}
-use Rattle.sessions.specs.Sessions.{AreApart, AreBehind, AreBelow, AreInOrder, AreLater, GoesOnFromBoth, has_length, own_of, run_of, seen_in}
+use Rattle.sessions.specs.Sessions.{AreApart, AreBehind, AreInOrder, AreLater, GoesOnFromBoth, has_length, own_of, run_of, seen_in}
 use Rattle.sessions.proofs.Own.{all_append, all_further, before_has, behind_further, has_append, later_append, later_first, own_low, own_more, own_part, own_split}
 
 pub own_merge : (one other : List (List Event)) → AreApart one other → (past : List Event) → IsMerge (own_of one past) (own_of other past) (own_of (one ++ other) past)

@@ -1,5 +1,5 @@
 -- A step behind what was seen last: what it is answered, and what a session keeps of it.
-use Rattle.std.proofs.Common.{Bool, Err, IfOk, List, None, Ok, OnErr, Option, Result, Some, MatchOption, [], ap, arith, cond, false, length, refl, subst, suc, sym, true, ℕ, ◌++◌, ◌<◌, ◌∙◌, ◌∷◌, ◌≡◌, length-append}
+use Rattle.std.proofs.Common.{Bool, List, None, Option, Some, MatchOption, [], ap, arith, cond, false, length, refl, subst, suc, sym, true, ◌++◌, ◌<◌, ◌∙◌, ◌∷◌, ◌≡◌, length-append}
 use Rattle.std.proofs.Math.Logic.{∥∥₁_elim, ∥∥₁_map}
 use Rattle.std.proofs.lemmas.List.{append-nil, append_assoc}
 use Rattle.std.specs.Prelude.{is_some, option_to_list}
@@ -9,11 +9,11 @@ use Rattle.run_model.specs.declared.history.Event.{Event}
 use Rattle.run_model.specs.declared.step.Step.{Step}
 use Rattle.run_model.specs.Answers.{answer_of}
 use Rattle.run_model.specs.Openings.{Opening, OpeningLists, opening_in}
-use Rattle.run_model.specs.Runs.{IsRun, history_after, is_accepted, world_after}
+use Rattle.run_model.specs.Runs.{IsRun, history_after, is_accepted}
 use Rattle.locked_run.specs.Behind.{GoesOnFrom, IsBehind}
 use Rattle.runtime.specs.Answering.{IsAnsweredFrom}
 use Rattle.stepping.specs.Beside.{IsAnsweredTo, IsPartOf}
-use Rattle.sessions.specs.Sessions.{AreBelow, AreInOrder, AreLater, own_of, run_of, seen_in}
+use Rattle.sessions.specs.Sessions.{AreBelow, AreInOrder, own_of, run_of, seen_in}
 use Rattle.sessions.proofs.Own.{all_append, all_below, all_further, behind_further, behind_nothing, behind_parts, below_more, below_prop, later_append, own_low, own_next, own_part}
 
 -- the answer comes behind what was seen last

@@ -35,11 +35,13 @@ returns-clause-err g c =
     (subst (λ l. IsKept mid.result c.keep.result l new.receipts) mid.ensures.receipts c.keep.ensures.kept)
     (subst (λ l. IsLastSeen mid.result l new.last_seen) mid.ensures.seen c.keep.ensures.seen)
 
-pub keep-requires-clause-behind : goal.keep-requires-clause-behind
-keep-requires-clause-behind g c =
+pub keep-requires : goal.keep-requires
+keep-requires g c =
     let behind = c.step_behind-answered in
-    let step = c.args.step.now in (
-      step,
-      subst (λ last. IfOk behind.result (λ a. IsAnsweredFrom g.K.OfRun.opening last step a.answer a.receipt a.seen)) (sym behind.ensures.seen)
-          behind.ensures.answered,
-    )
+    let step = c.args.step.now in record {
+      behind = (
+        step,
+        subst (λ last. IfOk behind.result (λ a. IsAnsweredFrom g.K.OfRun.opening last step a.answer a.receipt a.seen)) (sym behind.ensures.seen)
+            behind.ensures.answered,
+      );
+    }

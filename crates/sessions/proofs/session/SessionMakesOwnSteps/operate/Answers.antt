@@ -42,11 +42,13 @@ returns-clause-waits g c =
     kept_gives_up g.U.Patience.over c.wait_behind-answered.result c.keep.result c.wait_behind-answered.new.self.receipts c.keep.new.self.receipts c.keep.ensures.kept
     c.wait_behind-answered.ensures.waits
 
-pub keep-requires-clause-behind : goal.keep-requires-clause-behind
-keep-requires-clause-behind g c =
+pub keep-requires : goal.keep-requires
+keep-requires g c =
     let behind = c.wait_behind-answered in
-    let step = (Op c.args.action.now c.args.object c.args.operation) in (
-      step,
-      subst (λ last. IfOk behind.result (λ a. IsAnsweredFrom g.K.OfRun.opening last step a.answer a.receipt a.seen)) (sym behind.ensures.seen)
-          behind.ensures.answered,
-    )
+    let step = (Op c.args.action.now c.args.object c.args.operation) in record {
+      behind = (
+        step,
+        subst (λ last. IfOk behind.result (λ a. IsAnsweredFrom g.K.OfRun.opening last step a.answer a.receipt a.seen)) (sym behind.ensures.seen)
+            behind.ensures.answered,
+      );
+    }
