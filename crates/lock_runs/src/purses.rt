@@ -9,22 +9,16 @@ ghost use Rattle.world_steps.specs.Standings.{IsWorld};
 ghost use Rattle.world.specs.Worlds.{seen_of};
 
 use crate::runs::{Parts, Threaded, end, opened, setup_of};
-use guardian::Guardian;
-use registry::Registry;
 use rows::RowFault;
 use run_model::{ObjectId, Op, Opening, Reply, Value};
 use runtime::{Endless, OfRun, OpenGate, Receipts};
 use service::{Begun, CallFault, Cause, Outcome, Service, Transacted, Transaction, Work};
 use sessions::Session;
-use stable_store::PlainStable;
 use std::alloc::Global;
 use std::marker::Brand;
 use std::sync::Wait;
 use std::thread::{Threads, map_indices};
 use stepping::MakesOwnSteps;
-
-/// The session of a thread that moves coins.
-type Moving<'a, K, H> = Session<'a, K, Registry, Guardian<PlainStable>, OpenGate, Endless, H>;
 
 /// How many guardians there are. Each has a purse.
 const PURSES: u32 = 4;
