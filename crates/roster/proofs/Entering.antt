@@ -21,11 +21,10 @@ use Rattle.roster.proofs.Counted.{all_counted, count-append, fewer}
 use Rattle.roster.proofs.Events.{absent, closed_was_begun, closes_one, ended_after, ended_was_begun, maker_not_new, more_events, one_is_new}
 use Rattle.roster.proofs.Names.{clash, has_name-append}
 use Rattle.guardian_laws.specs.Sent.{Sent}
-use Rattle.roster.specs.Entries.{IsBorn, IsEntry, IsMerged}
+use Rattle.roster.specs.Entries.{IsBorn, IsMade, IsMerged}
 use Rattle.roster.specs.Rosters.{IsIndexed, IsRoster}
 use Rattle.roster.specs.Steps.{above, closed_in, ended_in, turn_in}
-use Rattle.roster.specs.Tables.{Table, all_added, begun_of, changed_at, ended, entered, home_at, life_in, maker_left, merged, more_by, one_less, place_of, placed, row_at, row_of, said, turned, with_closed, with_depends, with_ended}
-use Rattle.roster.specs.declared.entry.Entry.{Entry}
+use Rattle.roster.specs.Tables.{Made, Table, all_added, begun_of, changed_at, ended, entered, home_at, life_in, maker_left, merged, more_by, one_less, place_of, placed, row_at, row_of, said, turned, with_closed, with_depends, with_ended}
 use Rattle.roster.specs.declared.entry.Row.{Row}
 use Rattle.roster.specs.declared.entry.Turn.{Turn}
 use Rattle.roster.specs.declared.entry.Turn.TheVariants.{Crashes, Recovers, Stays}
@@ -96,8 +95,8 @@ pub standing_ended : (at : Option ℕ) (t : Table) → standing (ended at t) ≡
 standing_ended at t =
     standing_changed one_less (said maker_left None (row_at t at)) (changed_at with_ended at t) ∙ standing_changed with_ended at t
 
-module _ (g : ℕ) (here : List LocalEvent) (c : LocalEvent) (t : Table) (entry : Entry) (is : IsRoster g here t)
-    (agrees : AgreesOnActions g c here) (planned : IsEntry t c.event c.carried.dependencies entry) where
+module _ (g : ℕ) (here : List LocalEvent) (c : LocalEvent) (t : Table) (made : Made) (is : IsRoster g here t)
+    (agrees : AgreesOnActions g c here) (planned : IsMade t c.event c.carried.dependencies made) where
   abbrev past : List Event
   past = events_here here
 
@@ -111,7 +110,7 @@ module _ (g : ℕ) (here : List LocalEvent) (c : LocalEvent) (t : Table) (entry 
   came = c.carried.dependencies
 
   abbrev rows : List (Name × Row)
-  rows = begun_of t.names entry.birth entry.begun.items
+  rows = begun_of t.names made.birth made.begun
 
   -- ---- what begins
 
@@ -145,58 +144,58 @@ module _ (g : ℕ) (here : List LocalEvent) (c : LocalEvent) (t : Table) (entry 
   -- ---- the tables, one after the other
 
   abbrev t1 : Table
-  t1 = changed_at (more_by (length rows)) entry.birth.maker t
+  t1 = changed_at (more_by (length rows)) made.birth.maker t
 
   abbrev t2 : Table
   t2 = all_added rows t1
 
   abbrev t3 : Table
-  t3 = changed_at with_ended entry.ended t2
+  t3 = changed_at with_ended made.ended t2
 
   abbrev left : Option ℕ
-  left = said maker_left None (row_at t2 entry.ended)
+  left = said maker_left None (row_at t2 made.ended)
 
   abbrev t4 : Table
   t4 = changed_at one_less left t3
 
   abbrev t5 : Table
-  t5 = changed_at with_closed entry.closed t4
+  t5 = changed_at with_closed made.closed t4
 
   abbrev t6 : Table
-  t6 = merged entry.merged t5
+  t6 = merged made.merged t5
 
   abbrev t7 : Table
-  t7 = turned entry.turn t6
+  t7 = turned made.turn t6
 
   i1 : IsIndexed t1
-  i1 = indexed_changed (more_by (length rows)) entry.birth.maker t is.indexed
+  i1 = indexed_changed (more_by (length rows)) made.birth.maker t is.indexed
 
   i2 : IsIndexed t2
   i2 = indexed_all rows t1 i1
 
   i3 : IsIndexed t3
-  i3 = indexed_changed with_ended entry.ended t2 i2
+  i3 = indexed_changed with_ended made.ended t2 i2
 
   i4 : IsIndexed t4
   i4 = indexed_changed one_less left t3 i3
 
   i5 : IsIndexed t5
-  i5 = indexed_changed with_closed entry.closed t4 i4
+  i5 = indexed_changed with_closed made.closed t4 i4
 
   i7 : IsIndexed t7
-  i7 = indexed_turned entry.turn t6 (indexed_merged entry.merged t5 i5)
+  i7 = indexed_turned made.turn t6 (indexed_merged made.merged t5 i5)
 
   -- ---- places
 
   place5 : (a : Name) → place_of t5 a ≡ place_of t2 a
-  place5 a = place_changed with_closed entry.closed t4 a ∙ place_changed one_less left t3 a ∙ place_changed with_ended entry.ended t2 a
+  place5 a = place_changed with_closed made.closed t4 a ∙ place_changed one_less left t3 a ∙ place_changed with_ended made.ended t2 a
 
   place7 : (a : Name) → place_of t7 a ≡ place_of t2 a
-  place7 a = place_turned entry.turn t6 a ∙ place_merged entry.merged t5 a ∙ place5 a
+  place7 a = place_turned made.turn t6 a ∙ place_merged made.merged t5 a ∙ place5 a
 
   -- who does not begin stands where it stood
   place2 : (a : Name) → has_name names a ≡ false → place_of t2 a ≡ place_of t a
-  place2 a none = place_all rows t1 a (none_of (value_at rows a) (has a ∙ none)) ∙ place_changed (more_by (length rows)) entry.birth.maker t a
+  place2 a none = place_all rows t1 a (none_of (value_at rows a) (has a ∙ none)) ∙ place_changed (more_by (length rows)) made.birth.maker t a
 
   still : (o : Option Name) → ((d : Name) → o ≡ Some d → has_name names d ≡ false) → placed t o ≡ placed t2 o
   still None is_old = refl
@@ -208,12 +207,12 @@ module _ (g : ℕ) (here : List LocalEvent) (c : LocalEvent) (t : Table) (entry 
       → ((depends : Deps) (x : Row) → field (with_depends depends x) ≡ field x) → (a : Name)
       → said field missing (row_of t7 a) ≡ said field missing (row_of t4 a)
   later field missing closes merges a =
-      ap (said field missing) (row_turned entry.turn t6 a)
-      ∙ kept_merged field missing entry.merged t5 merges a ∙ kept field missing with_closed entry.closed t4 closes a
+      ap (said field missing) (row_turned made.turn t6 a)
+      ∙ kept_merged field missing made.merged t5 merges a ∙ kept field missing with_closed made.closed t4 closes a
 
   ending : {B : Type 0} (field : Row → B) (missing : B) → ((x : Row) → field (with_ended x) ≡ field x) → ((x : Row) → field (one_less x) ≡ field x)
       → (a : Name) → said field missing (row_of t4 a) ≡ said field missing (row_of t2 a)
-  ending field missing ends less a = kept field missing one_less left t3 less a ∙ kept field missing with_ended entry.ended t2 ends a
+  ending field missing ends less a = kept field missing one_less left t3 less a ∙ kept field missing with_ended made.ended t2 ends a
 
   begun_or : {B : Type 0} (field : Row → B) (missing new before : B) (a : Name) → ((x : Row) → value_at rows a ≡ Some x → field x ≡ new)
       → said field missing (row_of t1 a) ≡ before → said field missing (row_of t2 a) ≡ cond (has_name names a) new before
@@ -226,7 +225,7 @@ module _ (g : ℕ) (here : List LocalEvent) (c : LocalEvent) (t : Table) (entry 
 
   counting : {B : Type 0} (field : Row → B) (missing : B) → ((x : Row) → field (more_by (length rows) x) ≡ field x) → (a : Name)
       → said field missing (row_of t1 a) ≡ said field missing (row_of t a)
-  counting field missing counts a = kept field missing (more_by (length rows)) entry.birth.maker t counts a
+  counting field missing counts a = kept field missing (more_by (length rows)) made.birth.maker t counts a
 
   -- who was begun has a row
   row0 : (a : Name) → is_begun a past ≡ true → is_some (row_of t a) ≡ true
@@ -254,7 +253,7 @@ module _ (g : ℕ) (here : List LocalEvent) (c : LocalEvent) (t : Table) (entry 
   row5 : (a : Name) → is_begun a past ≡ true → is_some (row_of t5 a) ≡ true
   row5 a was =
       some_said (row_of t5 a)
-      ∙ kept (λ row. true) false with_closed entry.closed t4 (λ x. refl) a ∙ sym (some_said (row_of t4 a)) ∙ row4 a was
+      ∙ kept (λ row. true) false with_closed made.closed t4 (λ x. refl) a ∙ sym (some_said (row_of t4 a)) ∙ row4 a was
 
   -- ---- homes and lives
 
@@ -334,7 +333,7 @@ module _ (g : ℕ) (here : List LocalEvent) (c : LocalEvent) (t : Table) (entry 
   closes_old : (d : Name) → closed_in step ≡ Some d → has_name names d ≡ false
   closes_old d closes = old d (closed_was_begun step past d agrees.known closes)
 
-  ended_there : entry.ended ≡ placed t2 (ended_in step)
+  ended_there : made.ended ≡ placed t2 (ended_in step)
   ended_there = planned.ended ∙ still (ended_in step) ends_old
 
   ended2 : (a : Name) → said (λ row. row.ended) false (row_of t2 a) ≡ is_ended a past
@@ -366,10 +365,10 @@ module _ (g : ℕ) (here : List LocalEvent) (c : LocalEvent) (t : Table) (entry 
 
   -- ---- closing
 
-  closed_there : entry.closed ≡ placed t4 (closed_in step)
+  closed_there : made.closed ≡ placed t4 (closed_in step)
   closed_there =
       planned.closed ∙ still (closed_in step) closes_old
-      ∙ sym (placed_changed one_less left t3 (closed_in step) ∙ placed_changed with_ended entry.ended t2 (closed_in step))
+      ∙ sym (placed_changed one_less left t3 (closed_in step) ∙ placed_changed with_ended made.ended t2 (closed_in step))
 
   closed4 : (a : Name) → said (λ row. row.closed) false (row_of t4 a) ≡ is_closed a past
   closed4 a =
@@ -384,8 +383,8 @@ module _ (g : ℕ) (here : List LocalEvent) (c : LocalEvent) (t : Table) (entry 
 
   closed_is : (a : Name) → said (λ row. row.closed) false (row_of t7 a) ≡ is_closed a (events_here (c ∷ here))
   closed_is a =
-      ap (said (λ row. row.closed) false) (row_turned entry.turn t6 a)
-      ∙ kept_merged (λ row. row.closed) false entry.merged t5 (λ d x. refl) a
+      ap (said (λ row. row.closed) false) (row_turned made.turn t6 a)
+      ∙ kept_merged (λ row. row.closed) false made.merged t5 (λ d x. refl) a
       ∙ ap (λ at. said (λ row. row.closed) false (row_of (changed_at with_closed at t4) a)) closed_there
       ∙ ap (said (λ row. row.closed) false) (struck t4 i4 with_closed (closed_in step) a)
       ∙ of (is_exactly (closed_in step) a) refl
@@ -406,7 +405,7 @@ module _ (g : ℕ) (here : List LocalEvent) (c : LocalEvent) (t : Table) (entry 
 
   depends5 : (a : Name) (h : ℕ) → said (Depends h) None (row_of t5 a) ≡ cond (has_name names a) (least_of came a h) (dependency_here a h here)
   depends5 a h =
-      kept (Depends h) None with_closed entry.closed t4 (λ x. refl) a
+      kept (Depends h) None with_closed made.closed t4 (λ x. refl) a
       ∙ ending (Depends h) None (λ x. refl) (λ x. refl) a
       ∙ begun_or (Depends h) None (least_of came a h) (dependency_here a h here) a (λ x found. (born a x found).depends h)
       (counting (Depends h) None (λ x. refl) a ∙ is.depends a h)
@@ -500,7 +499,7 @@ module _ (g : ℕ) (here : List LocalEvent) (c : LocalEvent) (t : Table) (entry 
   leaves (Tell k b) m none reaches a h = ap (λ q. said (Depends h) None (row_of (merged q t5) a)) none ∙ depends5 a h
 
   depends_is : (a : Name) (h : ℕ) → said (Depends h) None (row_of t7 a) ≡ dependency_here a h (c ∷ here)
-  depends_is a h = ap (said (Depends h) None) (row_turned entry.turn t6 a) ∙ leaves step entry.merged planned.merged agrees.reaches a h
+  depends_is a h = ap (said (Depends h) None) (row_turned made.turn t6 a) ∙ leaves step made.merged planned.merged agrees.reaches a h
 
   -- ---- counts
 
@@ -513,7 +512,7 @@ module _ (g : ℕ) (here : List LocalEvent) (c : LocalEvent) (t : Table) (entry 
   leaver (Some d) = cond (is_ended d past) None (maker_of d past)
 
   left_there : left ≡ placed t3 (leaver (ended_in step))
-  left_there = ap (λ at. said maker_left None (row_at t2 at)) ended_there ∙ of (ended_in step) ends_old ∙ sym (placed_changed with_ended entry.ended t2 (leaver (ended_in step)))
+  left_there = ap (λ at. said maker_left None (row_at t2 at)) ended_there ∙ of (ended_in step) ends_old ∙ sym (placed_changed with_ended made.ended t2 (leaver (ended_in step)))
     where
       parts : (r : Option Row) → said maker_left None r ≡ cond (said (λ row. row.ended) false r) None (said (λ row. row.maker) None r)
       parts None = refl
@@ -532,7 +531,7 @@ module _ (g : ℕ) (here : List LocalEvent) (c : LocalEvent) (t : Table) (entry 
           ∙ ap (λ b. cond (is_ended d past) None (cond b (placed t (maker_in step)) (placed t (maker_of d past)))) (is_old d refl)
           ∙ chosen d (is_ended d past)
 
-  count_there : entry.birth.maker ≡ placed t (maker_in step)
+  count_there : made.birth.maker ≡ placed t (maker_in step)
   count_there = planned.maker
 
   unended2 : (a : Name) → is_begun a past ≡ true → said Unended 0 (row_of t2 a)
@@ -556,7 +555,7 @@ module _ (g : ℕ) (here : List LocalEvent) (c : LocalEvent) (t : Table) (entry 
       ∙ ap (λ at. said Unended 0 (row_of (changed_at one_less at t3) a)) left_there
       ∙ ap (said Unended 0) (struck t3 i3 one_less (leaver (ended_in step)) a)
       ∙ of (is_exactly (leaver (ended_in step)) a)
-      ∙ ap (λ n. n - cond {A = ℕ} (is_exactly (leaver (ended_in step)) a) 1 0) (kept Unended 0 with_ended entry.ended t2 (λ x. refl) a)
+      ∙ ap (λ n. n - cond {A = ℕ} (is_exactly (leaver (ended_in step)) a) 1 0) (kept Unended 0 with_ended made.ended t2 (λ x. refl) a)
     where
       less : (r : Option Row) → said Unended 0 (option_map one_less r) ≡ said Unended 0 r - 1
       less None = refl
@@ -647,8 +646,8 @@ module _ (g : ℕ) (here : List LocalEvent) (c : LocalEvent) (t : Table) (entry 
 
   standing6 : standing t6 ≡ standing t
   standing6 =
-      standing_merged entry.merged t5 ∙ standing_changed with_closed entry.closed t4 ∙ standing_ended entry.ended t2
-      ∙ standing_all rows t1 ∙ standing_changed (more_by (length rows)) entry.birth.maker t
+      standing_merged made.merged t5 ∙ standing_changed with_closed made.closed t4 ∙ standing_ended made.ended t2
+      ∙ standing_all rows t1 ∙ standing_changed (more_by (length rows)) made.birth.maker t
 
   crashes_is : t7.crashes ≡ crashes g (events_here (c ∷ here))
   crashes_is =
@@ -672,14 +671,14 @@ module _ (g : ℕ) (here : List LocalEvent) (c : LocalEvent) (t : Table) (entry 
   found_is a =
       ap is_some (place7 a)
       ∙ found_all rows t1 a
-      ∙ (λ i. has a i || (ap is_some (place_changed (more_by (length rows)) entry.birth.maker t a) ∙ is.found a) i)
+      ∙ (λ i. has a i || (ap is_some (place_changed (more_by (length rows)) made.birth.maker t a) ∙ is.found a) i)
       ∙ sym (has_name-append names (begun past) a)
 
   -- The roster with the entry is that of the history with the event.
-  pub enters : IsRoster g (c ∷ here) (entered entry t)
+  pub enters : IsRoster g (c ∷ here) (entered made t)
   enters = record {
     events = more_events g c.event past is.events agrees.new agrees.made agrees.own named;
-    guardian = guardian_turned entry.turn t6 ∙ ap (λ (s : ℕ × ℕ × Bool). s.0) standing6 ∙ is.guardian;
+    guardian = guardian_turned made.turn t6 ∙ ap (λ (s : ℕ × ℕ × Bool). s.0) standing6 ∙ is.guardian;
     crashes = crashes_is;
     down = down_is;
     indexed = i7;

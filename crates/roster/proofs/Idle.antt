@@ -1,18 +1,13 @@
 -- An entry that makes nothing of a roster.
-use Rattle.std.proofs.Common.{None, ap, arith, length, refl, subst, sym, vec_len, ℕ, ◌<◌, ◌∙◌, ◌≡◌}
-use Rattle.std.specs.List.{AllByRecursion}
-use Rattle.action_names.specs.Deps.{Deps}
-use Rattle.action_names.specs.Names.{IsName, Name}
+use Rattle.std.proofs.Common.{Bool, None, ap, arith, cond, false, refl, sym, true, ◌≡◌}
 use Rattle.guardian_laws.specs.Sent.{Sent}
-use Rattle.holders.specs.Held.{names_of}
 use Rattle.run_model.specs.declared.history.Event.{Event}
 use Rattle.run_model.specs.declared.step.Step.{Step}
 use Rattle.run_model.specs.declared.step.Step.TheVariants.{Abort, Arms, Call, Close, Commit, Crash, Decide, NestedTop, Op, Prepare, Recover, Tell, Top}
-use Rattle.roster.specs.Entries.{CanCount, ConcernsNone, FitsEntry, HavePlaces, IsBorn, IsEntry, IsIdle, IsMerged}
+use Rattle.roster.specs.Entries.{ConcernsNone, FitsMade, IsMade, IsMerged}
 use Rattle.roster.specs.Steps.{ended_in}
-use Rattle.roster.specs.Tables.{Table, begun_of, placed}
+use Rattle.roster.specs.Tables.{Table, made_by, nothing_made, placed, written_in}
 use Rattle.roster.specs.declared.entry.Entry.{Entry}
-use Rattle.roster.specs.declared.entry.Row.{Row}
 use Rattle.roster.specs.declared.roster.Roster.{Roster}
 
 -- where nothing ends, nothing is merged
@@ -32,29 +27,24 @@ merges_none t (Crash h) came ends = refl
 merges_none t (Recover h) came ends = refl
 
 -- it is that of each event that concerns no row
-pub idle_entry : (t : Table) (e : Event) (came : Sent) (entry : Entry) → ConcernsNone e → IsIdle entry → IsEntry t e came entry
-idle_entry t e came entry none idle = record {
-  ended = idle.ended ∙ ap (placed t) (sym none.ended);
-  closed = idle.closed ∙ ap (placed t) (sym none.closed);
-  merged = subst (IsMerged t e.step came) (sym idle.merged) (merges_none t e.step came none.ended);
-  maker = idle.maker ∙ ap (placed t) (sym none.maker);
-  begun = record {
-    names = ap (λ xs. names_of (begun_of t.names entry.birth xs)) idle.begun ∙ sym none.begun;
-    named = subst (λ xs. AllByRecursion (λ (x : Name × Row). IsName x.0) (begun_of t.names entry.birth xs)) (sym idle.begun) tt;
-    rows = subst (λ xs. AllByRecursion (λ (x : Name × Row). IsBorn t e.step came x.0 x.1) (begun_of t.names entry.birth xs)) (sym idle.begun) tt;
-  };
-  placed = subst (HavePlaces t.names) (sym idle.begun) tt;
-  turn = idle.turn ∙ sym none.turn;
+pub idle_made : (t : Table) (e : Event) (came : Sent) → ConcernsNone e → IsMade t e came nothing_made
+idle_made t e came none = record {
+  ended = ap (placed t) (sym none.ended);
+  closed = ap (placed t) (sym none.closed);
+  merged = merges_none t e.step came none.ended;
+  maker = ap (placed t) (sym none.maker);
+  begun = record { names = sym none.begun; named = tt; rows = tt };
+  placed = tt;
+  turn = sym none.turn;
 }
 
 -- and each roster has room for it
-pub idle_fits : (roster : Roster) (entry : Entry) → IsIdle entry → FitsEntry roster entry
-idle_fits roster entry idle =
-    let none : length entry.begun.items ≡ 0 = ap length idle.begun in
-    record {
-      begun = record {
-        rows = omega (arith, none, entry.begun.ok.0, roster.rows.ok.1);
-        places = subst (AllByRecursion (λ (x : ℕ × Deps). x.0 < length roster.at)) (sym idle.begun) tt;
-      };
-      count = subst (λ at. CanCount roster.rows.items at (vec_len entry.begun)) (sym idle.maker) tt;
-    }
+pub idle_fits : (roster : Roster) → FitsMade roster nothing_made
+idle_fits roster = record { begun = record { rows = omega (arith, roster.rows.ok.1); places = tt }; count = tt }
+
+-- what an entry makes, where it is idle, and where it is not
+pub made_idle : (entry : Entry) → entry.idle ≡ true → made_by entry ≡ nothing_made
+made_idle entry idle = ap (λ (b : Bool). cond b nothing_made (written_in entry)) idle
+
+pub made_written : (entry : Entry) → entry.idle ≡ false → made_by entry ≡ written_in entry
+made_written entry busy = ap (λ (b : Bool). cond b nothing_made (written_in entry)) busy

@@ -13,7 +13,7 @@ use Rattle.run_model.specs.Actions.{home_in, maker_in, names_begun}
 use Rattle.run_model.specs.LocalReadings.{least_of}
 use Rattle.guardian_laws.specs.Sent.{Sent}
 use Rattle.roster.specs.Steps.{above, closed_in, ended_in, turn_in}
-use Rattle.roster.specs.Tables.{Table, begun_of, home_at, life_in, placed, row_at, said}
+use Rattle.roster.specs.Tables.{Made, Table, begun_of, home_at, life_in, made_by, placed, row_at, said}
 use Rattle.roster.specs.declared.entry.Entry.{Entry}
 use Rattle.roster.specs.declared.entry.Row.{Row}
 use Rattle.roster.specs.declared.entry.Turn.TheVariants.{Stays}
@@ -30,10 +30,14 @@ CanCount rows None n = Unit {0}
 CanCount rows (Some at) n =
     MatchOption (slice_get rows at) (Unit {0}) (λ row. row.unended + n < 2 ^ 64)
 
+-- there is room for what is made
+pub record FitsMade (roster : Roster) (made : Made) : Type 0 where
+  pub begun : FitsBegun roster made.begun (length made.begun)
+  pub count : CanCount roster.rows.items made.birth.maker (length made.begun)
+
 -- there is room for the entry
-pub record FitsEntry (roster : Roster) (entry : Entry) : Type 0 where
-  pub begun : FitsBegun roster entry.begun.items (vec_len entry.begun)
-  pub count : CanCount roster.rows.items entry.birth.maker (vec_len entry.begun)
+abbrev pub FitsEntry : Roster → Entry → Type 0
+FitsEntry roster entry = FitsMade roster (made_by entry)
 
 -- a commit leaves the row at the place, where there is one, with the lesser of its dependencies and of those that came
 abbrev pub IsLeft : Table → Option ℕ → (ℕ → Option ℕ) → Option (ℕ × Deps) → Type 0
@@ -82,21 +86,16 @@ pub record ConcernsNone (e : Event) : Type 0 where
   pub closed : closed_in e.step ≡ None
   pub turn : turn_in e.step ≡ Stays
 
--- the entry makes nothing of a roster
-pub record IsIdle (entry : Entry) : Type 0 where
-  pub ended : entry.ended ≡ None
-  pub closed : entry.closed ≡ None
-  pub merged : entry.merged ≡ None
-  pub maker : entry.birth.maker ≡ None
-  pub begun : entry.begun.items ≡ []
-  pub turn : entry.turn ≡ Stays
+-- this is what an event makes which brings these dependencies
+pub record IsMade (t : Table) (e : Event) (came : Sent) (made : Made) : Type 0 where
+  pub ended : made.ended ≡ placed t (ended_in e.step)
+  pub closed : made.closed ≡ placed t (closed_in e.step)
+  pub merged : IsMerged t e.step came made.merged
+  pub maker : made.birth.maker ≡ placed t (maker_in e.step)
+  pub begun : AreBorn t e came (begun_of t.names made.birth made.begun)
+  pub placed : HavePlaces t.names made.begun
+  pub turn : made.turn ≡ turn_in e.step
 
--- the entry is that of an event which brings these dependencies
-pub record IsEntry (t : Table) (e : Event) (came : Sent) (entry : Entry) : Type 0 where
-  pub ended : entry.ended ≡ placed t (ended_in e.step)
-  pub closed : entry.closed ≡ placed t (closed_in e.step)
-  pub merged : IsMerged t e.step came entry.merged
-  pub maker : entry.birth.maker ≡ placed t (maker_in e.step)
-  pub begun : AreBorn t e came (begun_of t.names entry.birth entry.begun.items)
-  pub placed : HavePlaces t.names entry.begun.items
-  pub turn : entry.turn ≡ turn_in e.step
+-- and the entry makes it
+abbrev pub IsEntry : Table → Event → Sent → Entry → Type 0
+IsEntry t e came entry = IsMade t e came (made_by entry)

@@ -34,6 +34,41 @@ table names roster = record {
   room = length roster.at;
 }
 
+-- what an entry makes of a table: which rows it ends and closes, with what a commit leaves its parent, what begins and
+-- how, and what becomes of the guardian
+pub record Made : Type 0 where
+  pub ended : Option ℕ
+  pub closed : Option ℕ
+  pub merged : Option (ℕ × Deps)
+  pub birth : Birth
+  pub begun : List (ℕ × Deps)
+  pub turn : Turn
+
+abbrev pub nothing_made : Made
+nothing_made = record {
+  ended = None;
+  closed = None;
+  merged = None;
+  birth = record { home = 0; life = 0; maker = None };
+  begun = [];
+  turn = Stays;
+}
+
+-- what stands in an entry
+abbrev pub written_in : Entry → Made
+written_in entry = record {
+  ended = entry.ended;
+  closed = entry.closed;
+  merged = entry.merged;
+  birth = entry.birth;
+  begun = entry.begun.items;
+  turn = entry.turn;
+}
+
+-- an idle entry makes nothing, whatever stands in it
+abbrev pub made_by : Entry → Made
+made_by entry = if entry.idle then nothing_made else written_in entry
+
 -- ---- what is read
 
 -- the place of an action, if it has a row
@@ -157,15 +192,15 @@ begun_of names birth begun =
     map (λ (x : ℕ × Deps). (get_or names x.0 [], born_row birth x.1)) begun
 
 -- the table with what begins, once its maker was counted up
-abbrev pub grown : Entry → Table → Table
-grown entry t = let begun = begun_of t.names entry.birth entry.begun.items in
-    all_added begun (changed_at (more_by (length begun)) entry.birth.maker t)
+abbrev pub grown : Made → Table → Table
+grown made t = let begun = begun_of t.names made.birth made.begun in
+    all_added begun (changed_at (more_by (length begun)) made.birth.maker t)
 
--- the table once the rows of the entry are made
-abbrev pub entered : Entry → Table → Table
-entered entry t =
-    turned entry.turn
-    (merged entry.merged (changed_at with_closed entry.closed (ended entry.ended (grown entry t))))
+-- the table once all that is made
+abbrev pub entered : Made → Table → Table
+entered made t =
+    turned made.turn
+    (merged made.merged (changed_at with_closed made.closed (ended made.ended (grown made t))))
 
 -- the rows that one roster has, and its places, the other has among more names, where it may have more room
 pub record IsKept (names : List Name) (old new : Roster) : Type 0 where

@@ -72,6 +72,8 @@ pub enum Turn {
 /// What an event makes of a roster, in copies. Its room is used again for the next event.
 #[derive(Drop)]
 pub struct Entry {
+    /// Whether it makes nothing of a roster. What else stands in it is then of an earlier event.
+    pub(crate) idle: bool,
     /// The place of the action that it ends.
     pub(crate) ended: Option<usize>,
     /// The place of the action that it closes.
@@ -85,11 +87,14 @@ pub struct Entry {
 }
 
 impl Entry {
+    ghost use Rattle.roster.specs.Tables.{made_by, nothing_made};
+
     /// What makes nothing of a roster. This takes no memory.
     pub fn new(alloc: Global) -> Entry
-        ensures { IsIdle result }
+        ensures { made_by result ≡ nothing_made }
     {
         Entry {
+            idle: true,
             ended: None,
             closed: None,
             merged: None,
@@ -102,23 +107,11 @@ impl Entry {
             turn: Turn::Stays,
         }
     }
-
-    /// Makes it one that makes nothing of a roster, and keeps its room.
-    pub(crate) fn clear(&mut self)
-        ensures { IsIdle self.new }
-    {
-        self.ended = None;
-        self.closed = None;
-        self.merged = None;
-        self.birth.maker = None;
-        self.begun.clear();
-        self.turn = Turn::Stays;
-    }
 }
 
 ghost use Rattle.roster.specs.Steps.{turn_in};
 ghost use Rattle.guardian_laws.specs.Sent.{sent_of};
-ghost use Rattle.roster.specs.Entries.{ConcernsNone, IsIdle};
+ghost use Rattle.roster.specs.Entries.{ConcernsNone};
 
 /// Whether the event begins, ends and closes no action, and leaves the guardian as it stood, as far as its kind tells.
 pub(crate) fn concerns_none(event: &EventRef<'_>) -> bool

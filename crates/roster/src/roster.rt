@@ -165,9 +165,10 @@ impl Roster {
     {
         // Nothing is looked up where the event concerns no row.
         if concerns_none(event) {
-            entry.clear();
+            entry.idle = true;
             return Ok(());
         }
+        entry.idle = false;
         // Places come first: who is concerned is looked up among all names.
         self.plan_begun(places, event, dependencies, &mut entry.begun)?;
         let Concerned {
@@ -193,6 +194,9 @@ impl Roster {
             → IsEntry (table names self.old) c.event c.carried.dependencies entry.old
             → IsRoster g (c ∷ here) (table names self.new) }
     {
+        if entry.idle {
+            return;
+        }
         self.count_more(entry.birth.maker, entry.begun.len());
         self.add_all(entry.birth, &mut entry.begun);
         self.end(entry.ended);

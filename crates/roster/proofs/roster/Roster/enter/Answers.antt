@@ -4,20 +4,26 @@ use Rattle.std.specs.List.{AllByRecursion}
 use Rattle.action_names.specs.Deps.{Deps}
 use Rattle.roster.proofs.Changed.{standing_changed, standing_merged}
 use Rattle.roster.proofs.Entering.{enters, standing_ended}
-use Rattle.roster.specs.Entries.{CanCount}
+use Rattle.roster.proofs.Idle.{made_idle, made_written}
+use Rattle.roster.specs.Entries.{CanCount, FitsMade, IsMade}
 use Rattle.roster.specs.Rosters.{IsRoster}
-use Rattle.roster.specs.Tables.{Table, all_added, begun_of, born_row, changed_at, ended, entered, grown, merged, more_by, table, turned, with_closed}
+use Rattle.roster.specs.Tables.{Table, all_added, begun_of, born_row, changed_at, ended, entered, grown, merged, more_by, nothing_made, table, turned, with_closed, written_in}
 use Rattle.roster.proofs.roster.Roster.enter.Goals as goal
 
 pub count_more-requires : goal.count_more-requires
-count_more-requires c = subst (CanCount c.args.self.now.rows.items c.args.entry.now.birth.maker) (sym c.len.ensures) c.requires.fits.count
+count_more-requires c =
+    let entry = c.args.entry.now in
+    let fits : FitsMade c.args.self.now (written_in entry) = subst (FitsMade c.args.self.now) (made_written entry c.if-entry.false) c.requires.fits in
+    subst (CanCount c.args.self.now.rows.items entry.birth.maker) (sym (c.len.ensures ∙ entry.begun.ok.0)) fits.count
 
 pub add_all-requires : goal.add_all-requires
-add_all-requires c = record {
-  rows = omega (arith, c.count_more.ensures.len, c.count_more.ensures.capacity, c.requires.fits.begun.rows);
-  places = subst (λ at. AllByRecursion (λ (x : ℕ × Deps). x.0 < length at) c.args.entry.now.begun.items) (sym c.count_more.ensures.places)
-      c.requires.fits.begun.places;
-}
+add_all-requires c =
+    let entry = c.args.entry.now in
+    let fits : FitsMade c.args.self.now (written_in entry) = subst (FitsMade c.args.self.now) (made_written entry c.if-entry.false) c.requires.fits in
+    record {
+      rows = omega (arith, c.count_more.ensures.len, c.count_more.ensures.capacity, entry.begun.ok.0, fits.begun.rows);
+      places = subst (λ at. AllByRecursion (λ (x : ℕ × Deps). x.0 < length at) entry.begun.items) (sym c.count_more.ensures.places) fits.begun.places;
+    }
 
 pub turn-requires : goal.turn-requires
 turn-requires c =
@@ -34,19 +40,27 @@ turn-requires c =
     ap crashes (c.merge.ensures []) ∙ ap (λ (s : ℕ × ℕ × Bool). s.1) (standing_merged c.take.result (table [] c.close.new.self)) in
     omega (arith, c.requires.count, merges ∙ closes ∙ ends ∙ added)
 
+pub returns-then-entry : goal.returns-then-entry
+returns-then-entry c = λ g here e names is agrees planned.
+    let before = table names c.args.self.now in
+    enters g here e before nothing_made is agrees
+    (subst (IsMade before e.event e.carried.dependencies) (made_idle c.args.entry.now c.if-entry.true) planned)
+
 pub returns : goal.returns
 returns c = λ g here e names is agrees planned.
     let entry = c.args.entry.now in
     let before = table names c.args.self.now in
+    let written : IsMade before e.event e.carried.dependencies (written_in entry) =
+    subst (IsMade before e.event e.carried.dependencies) (made_written entry c.if-entry.false) planned in
     let begun = begun_of names entry.birth entry.begun.items in
     let many : c.len.result ≡ length begun =
     c.len.ensures ∙ entry.begun.ok.0 ∙ sym (length-map entry.begun.items (λ (x : ℕ × Deps). (get_or names x.0 [], born_row entry.birth x.1))) in
-    let begins : table names c.add_all.new.self ≡ grown entry before =
-    c.add_all.ensures.added names planned.placed
+    let begins : table names c.add_all.new.self ≡ grown (written_in entry) before =
+    c.add_all.ensures.added names written.placed
     ∙ ap (all_added begun) (c.count_more.ensures.counted names ∙ ap (λ n. changed_at (more_by n) entry.birth.maker before) many) in
-    let whole : table names c.turn.new.self ≡ entered entry before =
+    let whole : table names c.turn.new.self ≡ entered (written_in entry) before =
     c.turn.ensures names
     ∙ ap (turned entry.turn) (c.merge.ensures names
     ∙ ap (λ m. merged m (table names c.close.new.self)) c.take.ensures.value
     ∙ ap (merged entry.merged) (c.close.ensures names ∙ ap (changed_at with_closed entry.closed) (c.end.ensures names ∙ ap (ended entry.ended) begins))) in
-    subst (IsRoster g (e ∷ here)) (sym whole) (enters g here e before entry is agrees planned)
+    subst (IsRoster g (e ∷ here)) (sym whole) (enters g here e before (written_in entry) is agrees written)

@@ -1,11 +1,11 @@
-use Rattle.std.proofs.Common.{ap, subst, sym, vec_len, ◌∙◌, ◌≡◌}
+use Rattle.std.proofs.Common.{ap, length, subst, sym, ◌∙◌, ◌≡◌}
 use Rattle.guardian_laws.specs.Sent.{sent_of}
 use Rattle.places.proofs.Walking.{more_none}
 use Rattle.run_model.proofs.Events.{step_is}
 use Rattle.run_model.specs.Actions.{home_in, maker_in}
-use Rattle.roster.proofs.Idle.{idle_entry, idle_fits}
+use Rattle.roster.proofs.Idle.{idle_fits, idle_made}
 use Rattle.roster.proofs.Planning.{are_born, home_made, roster_kept}
-use Rattle.roster.specs.Entries.{CanCount, IsMerged}
+use Rattle.roster.specs.Entries.{CanCount, FitsBegun, IsMerged}
 use Rattle.roster.specs.Steps.{closed_in, ended_in, turn_in}
 use Rattle.roster.specs.Tables.{home_at, placed, table}
 use Rattle.roster.proofs.roster.Roster.plan.Goals as goal
@@ -14,12 +14,11 @@ pub returns-then-concerns_none-clause-more : goal.returns-then-concerns_none-cla
 returns-then-concerns_none-clause-more c = more_none c.args.places.now
 
 pub returns-then-concerns_none-clause-fits : goal.returns-then-concerns_none-clause-fits
-returns-then-concerns_none-clause-fits c = idle_fits c.args.self.now c.clear.new.self c.clear.ensures
+returns-then-concerns_none-clause-fits c = idle_fits c.args.self.now
 
 pub returns-then-concerns_none-clause-planned : goal.returns-then-concerns_none-clause-planned
 returns-then-concerns_none-clause-planned c =
-    idle_entry (table c.args.places.now c.args.self.now) c.args.event.now (sent_of c.args.dependencies.now) c.clear.new.self
-    (c.concerns_none.ensures c.if-concerns_none.true) c.clear.ensures
+    idle_made (table c.args.places.now c.args.self.now) c.args.event.now (sent_of c.args.dependencies.now) (c.concerns_none.ensures c.if-concerns_none.true)
 
 pub returns-in_err-plan_begun-clause-more : goal.returns-in_err-plan_begun-clause-more
 returns-in_err-plan_begun-clause-more c = c.plan_begun.ensures.more
@@ -62,11 +61,14 @@ pub returns-clause-crashes : goal.returns-clause-crashes
 returns-clause-crashes c = c.plan_begun.ensures.kept.crashes
 
 pub returns-clause-fits : goal.returns-clause-fits
-returns-clause-fits c = record {
-  begun = c.in_ok-plan_begun.ensures.fits;
-  count = subst (λ at. CanCount c.plan_begun.new.self.rows.items at (vec_len c.plan_begun.new.begun)) (sym c.birth_in-entry.ensures.maker)
-      (subst (CanCount c.plan_begun.new.self.rows.items c.concerned_in-ended.result.maker) c.len.ensures c.in_ok-plan_count.ensures);
-}
+returns-clause-fits c =
+    let rows = c.plan_begun.new.self.rows.items in
+    let begun = c.plan_begun.new.begun in
+    record {
+      begun = subst (FitsBegun c.plan_begun.new.self begun.items) begun.ok.0 c.in_ok-plan_begun.ensures.fits;
+      count = subst (λ at. CanCount rows at (length begun.items)) (sym c.birth_in-entry.ensures.maker)
+          (subst (CanCount rows c.concerned_in-ended.result.maker) (c.len.ensures ∙ begun.ok.0) c.in_ok-plan_count.ensures);
+    }
 
 pub returns-clause-planned : goal.returns-clause-planned
 returns-clause-planned c =
