@@ -240,6 +240,10 @@ impl<T: Layered> Versions<T> {
         ensures rising { RisesByAncestry self.old.versions }
         ensures same { self.new ≡ self.old }
     {
+        if self.overlays.len() == self.ends.len() {
+            // Each owner has one overlay, and the base has none, as mostly.
+            return Ok(());
+        }
         let mut place = self.overlays.len();
         while place > 0 {
             place -= 1;
