@@ -87,10 +87,15 @@ impl Layered for Content {
         op: &Op,
     ) -> Result<Reply, AllocError> {
         if let ContentOverlay::Nothing(alloc) = overlay {
-            let mut fresh = fresh_overlay(base, *alloc);
-            let reply = note_in(base, below, &mut fresh, op)?;
-            *overlay = fresh;
-            return Ok(reply);
+            let alloc = *alloc;
+            *overlay = fresh_overlay(base, alloc);
+            return match note_in(base, below, overlay, op) {
+                Ok(reply) => Ok(reply),
+                Err(refused) => {
+                    *overlay = ContentOverlay::Nothing(alloc);
+                    Err(refused)
+                }
+            };
         }
         note_in(base, below, overlay, op)
     }
