@@ -157,6 +157,48 @@ module _ {Z : Type 0} where
               plain : (n : ℕ) → 0 + n ≡ n
               plain n = omega arith
 
+  -- a new row, with what stands in it
+  pub put_held : (s : Rows) (es new : List (Name × Vec ℕ Z)) (a : Name) (w : Vec ℕ Z) → rows_in es ≡ s → None ≡ lookup (is_at (name_cmp a)) es
+      → new ≡ insert_entry name_cmp es a w → (b : Name) (n : ℕ) → has_object (rows_in new) b n ≡ (same_name a b && has_number w.items n) || has_object s b n
+  put_held s es new a w e q is b n =
+      ap (λ (ns : List (Name × Vec ℕ Z)). has_object (rows_in ns) b n) is
+      ∙ ap (λ (r : Row). has_number r.objects n) (put_row a b w es)
+      ∙ by_case (same_name a b) refl
+      ∙ ap (λ (rs : Rows). (same_name a b && has_number w.items n) || has_object rs b n) e where
+        plain : (h : Bool) → h ≡ h || false
+        plain true = refl
+        plain false = refl
+
+        nothing : same_name a b ≡ true → false ≡ has_object (rows_in es) b n
+        nothing d = ap (λ (r : Row). has_number r.objects n) (found a es None q) ∙ ap (λ m. has_object (rows_in es) m n) (same_is a b d)
+
+        by_case : (t : Bool) → same_name a b ≡ t
+            → has_number (cond t (row_of w) (row_at (rows_in es) b)).objects n ≡ (t && has_number w.items n) || has_object (rows_in es) b n
+        by_case true d = plain (has_number w.items n) ∙ ap (λ h. has_number w.items n || h) (nothing d)
+        by_case false d = refl
+
+  pub put_room : (s : Rows) (es new : List (Name × Vec ℕ Z)) (a : Name) (w : Vec ℕ Z) → rows_in es ≡ s → None ≡ lookup (is_at (name_cmp a)) es
+      → new ≡ insert_entry name_cmp es a w → (b : Name) → room_at s b ≤ room_at (rows_in new) b
+  put_room s es new a w e q is b =
+      subst (λ (rs : Rows). room_at rs b ≤ room_at (rows_in new) b) e
+      (subst (λ (ns : List (Name × Vec ℕ Z)). room_at (rows_in es) b ≤ room_at (rows_in ns) b) (sym is)
+      (subst (λ (r : Row). room_at (rows_in es) b ≤ r.room) (sym (put_row a b w es)) (by_case (same_name a b) refl))) where
+        none : same_name a b ≡ true → room_at (rows_in es) b ≡ 0
+        none d = ap (room_at (rows_in es)) (sym (same_is a b d)) ∙ ap (λ (r : Row). r.room) (sym (found a es None q))
+
+        by_case : (t : Bool) → same_name a b ≡ t → room_at (rows_in es) b ≤ (cond t (row_of w) (row_at (rows_in es) b)).room
+        by_case true d = subst (λ n. n ≤ vec_capacity w) (sym (none d)) (omega arith)
+        by_case false d = omega arith
+
+  pub put_counted : (s : Rows) (es new : List (Name × Vec ℕ Z)) (a : Name) (w : Vec ℕ Z) → rows_in es ≡ s → None ≡ lookup (is_at (name_cmp a)) es
+      → new ≡ insert_entry name_cmp es a w → (b : Name) → count_below (rows_in new) b ≤ count_below s b + cond (is_ancestor b a) (length w.items) 0
+  put_counted s es new a w e q is b =
+      subst (λ (rs : Rows). count_below (rows_in new) b ≤ count_below rs b + cond (is_ancestor b a) (length w.items) 0) e
+      (subst (λ (ns : List (Name × Vec ℕ Z)). count_below (rows_in ns) b ≤ count_below (rows_in es) b + cond (is_ancestor b a) (length w.items) 0) (sym is)
+      (within _ _ _ (count_put a b w es q))) where
+        within : (x c n : ℕ) → x ≡ c + n → x ≤ n + c
+        within x c n p = omega arith
+
   pub added_room : (es new : List (Name × Vec ℕ Z)) (a n : Name) (w : Vec ℕ Z) → new ≡ insert_entry name_cmp es n w → n ≡ a
       → room_at (rows_in new) a ≡ vec_capacity w
   added_room es new a n w is same =
@@ -320,17 +362,17 @@ others_room s new a rows sum b other room =
       less : (x y n r l : ℕ) → x + y ≡ n → n ≤ r → l ≡ r → x ≤ l
       less x y n r l p k e = omega arith
 
--- and once an ancestor got its objects
+-- and once an ancestor got its objects, whose room is no less then
 pub room_after : (s mid new : Rows) (a h : Name) (objects : List ℕ) → is_proper_ancestor h a ≡ true → objects ≡ objects_at s a
     → ((b : Name) → row_at mid b ≡ cond (same_name a b) no_row (row_at s b))
     → ((b : Name) → count_below mid b + count_in b (a, row_at s a) ≡ count_below s b)
-    → ((b : Name) → room_at new b ≡ room_at mid b)
+    → ((b : Name) → room_at mid b ≤ room_at new b)
     → ((b : Name) → count_below new b ≤ count_below mid b + cond (is_ancestor b h) (length objects) 0)
     → (b : Name) → same_name a b ≡ false → HasRoomBelow s b → HasRoomBelow new b
 room_after s mid new a h objects up own rows sum rooms more b other room =
     let same : room_at mid b ≡ room_at s b = ap (λ (r : Row). r.room) (rows b) ∙ ap (λ t. (cond t no_row (row_at s b)).room) other in
     less _ _ _ _ _ _ _ (more b) (sum b) (part (is_ancestor b h) refl) room same (rooms b) where
-      less : (x m k y n r l : ℕ) {o : ℕ} → x ≤ m + k → m + y ≡ n → k ≤ y → n ≤ r → l ≡ r → o ≡ l → x ≤ o
+      less : (x m k y n r l : ℕ) {o : ℕ} → x ≤ m + k → m + y ≡ n → k ≤ y → n ≤ r → l ≡ r → l ≤ o → x ≤ o
       less x m k y n r l p q u v e i = omega arith
 
       part : (t : Bool) → is_ancestor b h ≡ t → cond t (length objects) 0 ≤ count_in b (a, row_at s a)

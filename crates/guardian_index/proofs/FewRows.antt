@@ -50,10 +50,12 @@ module _ {Z : Type 0} where
       → new ≡ insert_entry name_cmp es a w
   put_at es new a own i w gap same is = is ∙ ap (λ n. insert es i (n, w)) same ∙ insert_gap es a i w gap
 
+  pub orderly_given : (es new : List (Name × Vec ℕ Z)) (a : Name) (w : Vec ℕ Z) → IsOrderly es → new ≡ insert_entry name_cmp es a w → IsRising w.items → IsOrderly new
+  orderly_given es new a w o is rises =
+      orderly_put es new a w o is (subst (λ (rs : List (Name × Vec ℕ Z)). IsStrictlySortedBy name_cmp (keys_of rs)) (sym is) (sorted_in a w es o.names)) rises
+
   pub orderly_more : (es new : List (Name × Vec ℕ Z)) (a : Name) (w : Vec ℕ Z) → IsOrderly es → new ≡ insert_entry name_cmp es a w → w.items ≡ [] → IsOrderly new
-  orderly_more es new a w o is none =
-      orderly_put es new a w o is (subst (λ (rs : List (Name × Vec ℕ Z)). IsStrictlySortedBy name_cmp (keys_of rs)) (sym is) (sorted_in a w es o.names))
-      (subst IsRising (sym none) no_numbers)
+  orderly_more es new a w o is none = orderly_given es new a w o is (subst IsRising (sym none) no_numbers)
 
   -- ---- rows that show the same
   shown_rise : (es : List (Name × Vec ℕ Z)) → AllRise es → RowsRise (rows_in es)

@@ -1,11 +1,11 @@
 -- What each holder holds, and how much room it has.
-use Rattle.std.specs.Prelude.{◌≤◌, ◌+◌, ◌==◌, ◌||◌, ℕ, Bool, false, List, [], ◌∷◌, map, length, Option, Some, None, IsTrue, nat_lt, vec_capacity, if◌then◌else◌}
+use Rattle.std.specs.Prelude.{◌≤◌, ◌+◌, ◌==◌, ◌||◌, ℕ, Bool, false, not, List, [], ◌∷◌, map, length, Option, Some, None, IsTrue, nat_lt, vec_capacity, if◌then◌else◌}
 use Rattle.std.specs.List.{AllByRecursion}
 use Rattle.std.specs.List.Sorted.{IsStrictlySortedBy}
 use Rattle.std.specs.Map.{keys_of}
 use Rattle.std.specs.Ordering.{nat_cmp}
 use Rattle.std.specs.declared.vec.Vec.{Vec}
-use Rattle.action_names.specs.Names.{Name, same_name, is_ancestor, name_cmp}
+use Rattle.action_names.specs.Names.{Name, has_name, same_name, is_ancestor, name_cmp}
 
 -- at which objects a holder holds something, and for how many it has room
 pub record Row : Type 0 where
@@ -15,6 +15,11 @@ pub record Row : Type 0 where
 -- the rows of all holders, by name
 abbrev pub Rows : Type 0
 Rows = List (Name × Row)
+
+-- the rows, and whether one of them can be given to another holder, which has none
+pub record Index : Type 0 where
+  pub rows : Rows
+  pub renames : Bool
 
 -- each number is below those behind it
 abbrev pub IsRising : List ℕ → Type 0
@@ -71,6 +76,14 @@ HasRoomBelow held a = count_below held a ≤ room_at held a
 -- there is room with a holder for what another has beside its own
 abbrev pub HasRoomFrom : Rows → Name → Name → Type 0
 HasRoomFrom held a b = length (objects_at held a) + length (objects_at held b) ≤ room_at held a
+
+-- whether a holder that is handed another's objects needs room: it does where it has a row, or cannot be given the other's
+abbrev pub needs_room : Index → Name → Bool
+needs_room i a = not i.renames || has_name (keys_of i.rows) a
+
+-- the holder may be handed what another has
+abbrev pub MayBeHanded : Index → Name → Name → Type 0
+MayBeHanded i a b = IsTrue (needs_room i a) → HasRoomFrom i.rows a b
 
 -- whether this is the name of the one to whom something is handed on
 abbrev pub is_name_of : Option Name → Name → Bool

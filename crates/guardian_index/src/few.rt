@@ -1,6 +1,5 @@
 //! What holders hold in a vector, in the order of their names: for some dozens of them that costs less than a tree.
-ghost use Rattle.std.specs.Prelude.{◌≡◌, ◌↔◌, ◌||◌, ◌&&◌, ◌==◌, ◌≤◌, ◌+◌, ℕ, not, false, length, [], IsTrue, is_some, IfOk, OnOk, OnErr, IfSome, if◌then◌else◌};
-ghost use Rattle.std.specs.Option.{option_copied as name_of};
+ghost use Rattle.std.specs.Prelude.{◌≡◌, ◌↔◌, ◌||◌, ◌&&◌, ◌==◌, ◌≤◌, ◌+◌, ℕ, not, false, length, [], IsTrue, is_some, IfOk, OnOk, OnErr, IfSome};
 ghost use Rattle.std.specs.Map.{keys_of, values_of};
 ghost use Rattle.action_names.specs.Names.{Name, has_name, same_name, is_ancestor, is_proper_ancestor};
 ghost use Rattle.guardian_index.specs.Held.{IsRising, has_number, has_object, objects_at, room_at, has_room, HoldsBelow};
@@ -111,6 +110,22 @@ impl FewRows {
         }
     }
 
+    /// Makes room for so many more objects of the holder, if it has a row. What is held stays, and so does all room.
+    /// If memory runs out, nothing is changed.
+    pub fn widen(&mut self, holder: &Name, additional: usize) -> Result<(), AllocError>
+        ensures held { (b : Name) → objects_at self.new b ≡ objects_at self.old b }
+        ensures room { OnOk result (IsTrue (has_name (keys_of self.new) holder.now)
+            → length (objects_at self.old holder.now) + additional ≤ room_at self.new holder.now) }
+        ensures others { (b : Name) → room_at self.old b ≤ room_at self.new b }
+        ensures below { (b : Name) → count_below self.new b ≡ count_below self.old b }
+        ensures err { OnErr result (self.new ≡ self.old) }
+    {
+        match by_name::place(&self.rows, holder) {
+            Ok(at) => self.rows[at].1.reserve(additional),
+            Err(_) => Ok(()),
+        }
+    }
+
     /// Notes that the holder holds something at the object, for which there is room, or where it was noted before.
     /// This takes no memory.
     pub fn insert(&mut self, holder: &Name, object: u32)
@@ -136,24 +151,30 @@ impl FewRows {
         Some(count)
     }
 
-    /// Hands on what the action has to a proper ancestor that has room for it, or gives it up where there is none.
-    /// The action's room goes. This takes no memory.
-    pub fn hand_on(&mut self, action: &Name, to: Option<&Name>)
-        requires above { IfSome (name_of to) (λ h. IsTrue (is_proper_ancestor h action.now)) }
-        requires room { IfSome (name_of to) (λ h. HasRoomFrom self.old h action.now) }
+    /// Hands on what the action has to a proper ancestor, or gives it up where there is none. The ancestor has room for
+    /// it, or has no row and gets the action's. The action's room goes. This takes no memory.
+    pub fn hand_on(&mut self, action: &Name, to: Option<Name>)
+        requires above { IfSome to (λ h. IsTrue (is_proper_ancestor h action.now)) }
+        requires room { IfSome to (λ h. IsTrue (has_name (keys_of self.old) h)
+            → HasRoomFrom self.old h action.now) }
         ensures held { (b : Name) (n : ℕ) → has_object self.new b n
             ≡ (not (same_name action.now b) && (has_object self.old b n
-            || (is_name_of (name_of to.entry) b && has_object self.old action.now n))) }
+            || (is_name_of to b && has_object self.old action.now n))) }
         ensures room { (b : Name) → same_name action.now b ≡ false → HasRoomBelow self.old b
             → HasRoomBelow self.new b }
     {
-        let Some(objects) = by_name::remove(&mut self.rows, action) else {
+        let Ok(at) = by_name::place(&self.rows, action) else {
             return;
         };
+        let (_, objects) = self.rows.remove(at);
         let Some(to) = to else {
             return;
         };
-        self.insert_all(to, &objects);
+        match by_name::place(&self.rows, &to) {
+            Ok(above) => rising::insert_all(&mut self.rows[above].1, &objects),
+            // The row that has just gone left room for it.
+            Err(gap) => self.rows.insert(gap, (to, objects)).unwrap(),
+        }
     }
 
     /// Drops what the action and its descendants have, and their room. It looks at their rows and one more. This
@@ -186,22 +207,5 @@ impl FewRows {
             rows.insert(holder.copy()?, copy)?;
         }
         Ok(TreeRows::of(self.alloc, rows))
-    }
-}
-
-impl FewRows {
-    // Gives the holder these objects too, for which there is room.
-    fn insert_all(&mut self, holder: &Name, objects: &[u32])
-        requires { length (objects_at self.old holder.now) + length objects.now
-            ≤ room_at self.old holder.now }
-        ensures held { (b : Name) (n : ℕ) → has_object self.new b n
-            ≡ ((same_name holder.now b && has_number objects.now n) || has_object self.old b n) }
-        ensures room { (b : Name) → room_at self.new b ≡ room_at self.old b }
-        ensures below { (b : Name) → count_below self.new b ≤ count_below self.old b
-            + (if is_ancestor b holder.now then length objects.now else 0) }
-    {
-        if let Ok(at) = by_name::place(&self.rows, holder) {
-            rising::insert_all(&mut self.rows[at].1, objects);
-        }
     }
 }

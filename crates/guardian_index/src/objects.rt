@@ -1,10 +1,9 @@
 //! At which objects each holder holds something: in a vector while there are few holders, as nearly always, and in a
 //! tree from then on.
 ghost use Rattle.std.specs.Prelude.{◌≡◌, ◌↔◌, ◌||◌, ◌&&◌, ◌==◌, ◌≤◌, ◌+◌, ℕ, not, false, [], length, IsTrue, IfOk, OnOk, OnErr, IfSome};
-ghost use Rattle.std.specs.Option.{option_copied as name_of};
 ghost use Rattle.action_names.specs.Names.{Name, same_name, is_ancestor, is_proper_ancestor};
 ghost use Rattle.guardian_index.specs.Held.{IsRising, has_number, has_object, objects_at, room_at, has_room, HoldsBelow};
-ghost use Rattle.guardian_index.specs.Held.{HasRoomBelow, HasRoomFrom, IsHeld, count_below, is_name_of};
+ghost use Rattle.guardian_index.specs.Held.{HasRoomBelow, IsHeld, MayBeHanded, count_below, is_name_of, needs_room};
 ghost use Rattle.guardian_index.specs.Few.{is_in_rows};
 
 use crate::few::FewRows;
@@ -38,18 +37,18 @@ enum Kept {
 }
 
 impl Model for HeldObjects {
-    ghost use Rattle.guardian_index.specs.Held.{Rows};
-    ghost use Rattle.guardian_index.specs.Few.{rows_kept};
+    ghost use Rattle.guardian_index.specs.Held.{Index};
+    ghost use Rattle.guardian_index.specs.Few.{index_kept};
 
-    ghost Value = { Rows };
+    ghost Value = { Index };
 
-    ghost view = { λ a. rows_kept a.kept };
+    ghost view = { λ a. index_kept a.kept };
 }
 
 impl HeldObjects {
     /// Nobody holds anything, and there is room for nobody. This takes no memory.
     pub fn new(alloc: Global) -> Self
-        ensures { result ≡ [] }
+        ensures { result.rows ≡ [] }
     {
         HeldObjects {
             kept: Kept::Few(FewRows::new(alloc)),
@@ -58,7 +57,7 @@ impl HeldObjects {
 
     /// At which objects the holder holds something, rising; none where it holds nothing. This takes no memory.
     pub fn objects_of(&self, holder: &Name) -> &[u32]
-        ensures objects { result.now ≡ objects_at self.now holder.now }
+        ensures objects { result.now ≡ objects_at self.now.rows holder.now }
         ensures rising { IsRising result.now }
     {
         match &self.kept {
@@ -71,7 +70,7 @@ impl HeldObjects {
     /// one more. Fails only if memory runs out.
     pub fn objects_below(&self, action: &Name) -> Result<Vec<u32>, AllocError>
         ensures objects { IfOk result (λ objects. (n : ℕ)
-            → IsTrue (has_number objects.items n) ↔ HoldsBelow self.now action.now n) }
+            → IsTrue (has_number objects.items n) ↔ HoldsBelow self.now.rows action.now n) }
         ensures rising { IfOk result (λ objects. IsRising objects.items) }
     {
         match &self.kept {
@@ -83,7 +82,7 @@ impl HeldObjects {
     /// The objects at which somebody holds something: a row for each holder, so that an object at which several do
     /// comes once for each. This takes no memory.
     pub fn rows(&self) -> HeldRows<'_>
-        ensures { (n : ℕ) → IsTrue (is_in_rows result n) ↔ IsHeld self.now n }
+        ensures { (n : ℕ) → IsTrue (is_in_rows result n) ↔ IsHeld self.now.rows n }
     {
         match &self.kept {
             Kept::Few(few) => HeldRows::Few(few.rows()),
@@ -92,37 +91,42 @@ impl HeldObjects {
     }
 
     /// Makes room for one more object of the holder. What is held stays, and so does all room. If memory runs out,
-    /// nothing is changed.
+    /// all rows stay.
     pub fn make_room(&mut self, holder: &Name) -> Result<(), AllocError>
-        ensures held { (b : Name) → objects_at self.new b ≡ objects_at self.old b }
-        ensures room { OnOk result (IsTrue (has_room self.new holder.now)) }
-        ensures others { (b : Name) → room_at self.old b ≤ room_at self.new b }
-        ensures below { (b : Name) → HasRoomBelow self.old b → HasRoomBelow self.new b }
-        ensures err { OnErr result (self.new ≡ self.old) }
+        ensures held { (b : Name) → objects_at self.new.rows b ≡ objects_at self.old.rows b }
+        ensures room { OnOk result (IsTrue (has_room self.new.rows holder.now)) }
+        ensures others { (b : Name) → room_at self.old.rows b ≤ room_at self.new.rows b }
+        ensures below { (b : Name) → HasRoomBelow self.old.rows b → HasRoomBelow self.new.rows b }
+        ensures err { OnErr result (self.new.rows ≡ self.old.rows) }
     {
         self.reserve(holder, 1)
     }
 
-    /// Makes room for so many more objects of the holder. What is held stays, and so does all room. If memory runs
-    /// out, nothing is changed.
+    /// Makes room for so many more objects that the holder is to be handed, if it needs room for them. What is held
+    /// stays, and so does all room. If memory runs out, all rows stay.
     pub fn make_room_for(&mut self, holder: &Name, count: usize) -> Result<(), AllocError>
-        ensures held { (b : Name) → objects_at self.new b ≡ objects_at self.old b }
-        ensures room { OnOk result
-            (length (objects_at self.old holder.now) + count ≤ room_at self.new holder.now) }
-        ensures others { (b : Name) → room_at self.old b ≤ room_at self.new b }
-        ensures below { (b : Name) → HasRoomBelow self.old b → HasRoomBelow self.new b }
-        ensures err { OnErr result (self.new ≡ self.old) }
+        ensures held { (b : Name) → objects_at self.new.rows b ≡ objects_at self.old.rows b }
+        ensures room { OnOk result (IsTrue (needs_room self.new holder.now)
+            → length (objects_at self.old.rows holder.now) + count
+            ≤ room_at self.new.rows holder.now) }
+        ensures others { (b : Name) → room_at self.old.rows b ≤ room_at self.new.rows b }
+        ensures below { (b : Name) → HasRoomBelow self.old.rows b → HasRoomBelow self.new.rows b }
+        ensures err { OnErr result (self.new.rows ≡ self.old.rows) }
     {
-        self.reserve(holder, count)
+        match &mut self.kept {
+            Kept::Few(few) => few.widen(holder, count),
+            Kept::Many(many) => many.reserve(holder, count),
+        }
     }
 
     /// Notes that the holder holds something at the object, for which there is room, or where it was noted before.
     /// This takes no memory.
     pub fn insert(&mut self, holder: &Name, object: u32)
-        requires { IsTrue (has_object self.old holder.now object || has_room self.old holder.now) }
-        ensures held { (b : Name) (n : ℕ) → has_object self.new b n
-            ≡ ((same_name holder.now b && (object == n)) || has_object self.old b n) }
-        ensures room { (b : Name) → room_at self.new b ≡ room_at self.old b }
+        requires { IsTrue (has_object self.old.rows holder.now object
+            || has_room self.old.rows holder.now) }
+        ensures held { (b : Name) (n : ℕ) → has_object self.new.rows b n
+            ≡ ((same_name holder.now b && (object == n)) || has_object self.old.rows b n) }
+        ensures room { (b : Name) → room_at self.new.rows b ≡ room_at self.old.rows b }
     {
         match &mut self.kept {
             Kept::Few(few) => few.insert(holder, object),
@@ -133,11 +137,11 @@ impl HeldObjects {
     /// Makes room for all that the holder and its descendants have. What is held stays, and so does all room. It
     /// looks at their rows and one more. If memory runs out, nothing is changed.
     pub fn make_room_below(&mut self, holder: &Name) -> Result<(), AllocError>
-        ensures held { (b : Name) → objects_at self.new b ≡ objects_at self.old b }
-        ensures room { OnOk result (HasRoomBelow self.new holder.now) }
-        ensures others { (b : Name) → room_at self.old b ≤ room_at self.new b }
-        ensures below { (b : Name) → HasRoomBelow self.old b → HasRoomBelow self.new b }
-        ensures err { OnErr result (self.new ≡ self.old) }
+        ensures held { (b : Name) → objects_at self.new.rows b ≡ objects_at self.old.rows b }
+        ensures room { OnOk result (HasRoomBelow self.new.rows holder.now) }
+        ensures others { (b : Name) → room_at self.old.rows b ≤ room_at self.new.rows b }
+        ensures below { (b : Name) → HasRoomBelow self.old.rows b → HasRoomBelow self.new.rows b }
+        ensures err { OnErr result (self.new.rows ≡ self.old.rows) }
     {
         let Some(below) = self.count_below(holder) else {
             return Err(AllocError);
@@ -146,29 +150,29 @@ impl HeldObjects {
         self.reserve(holder, below.saturating_sub(own))
     }
 
-    /// Hands on what the action has to a proper ancestor that has room for it, or gives it up where there is none.
+    /// Hands on what the action has to a proper ancestor that may be handed it, or gives it up where there is none.
     /// The action's room goes. This takes no memory.
-    pub fn hand_on(&mut self, action: &Name, to: Option<&Name>)
-        requires above { IfSome (name_of to) (λ h. IsTrue (is_proper_ancestor h action.now)) }
-        requires room { IfSome (name_of to) (λ h. HasRoomFrom self.old h action.now) }
-        ensures held { (b : Name) (n : ℕ) → has_object self.new b n
-            ≡ (not (same_name action.now b) && (has_object self.old b n
-            || (is_name_of (name_of to.entry) b && has_object self.old action.now n))) }
-        ensures room { (b : Name) → same_name action.now b ≡ false → HasRoomBelow self.old b
-            → HasRoomBelow self.new b }
+    pub fn hand_on(&mut self, action: &Name, to: Option<Name>)
+        requires above { IfSome to (λ h. IsTrue (is_proper_ancestor h action.now)) }
+        requires room { IfSome to (λ h. MayBeHanded self.old h action.now) }
+        ensures held { (b : Name) (n : ℕ) → has_object self.new.rows b n
+            ≡ (not (same_name action.now b) && (has_object self.old.rows b n
+            || (is_name_of to b && has_object self.old.rows action.now n))) }
+        ensures room { (b : Name) → same_name action.now b ≡ false → HasRoomBelow self.old.rows b
+            → HasRoomBelow self.new.rows b }
     {
         match &mut self.kept {
             Kept::Few(few) => few.hand_on(action, to),
-            Kept::Many(many) => many.hand_on(action, to),
+            Kept::Many(many) => many.hand_on(action, to.as_ref()),
         }
     }
 
     /// Drops what the action and its descendants have, and their room. It looks at their rows and one more. This
     /// takes no memory.
     pub fn drop_below(&mut self, action: &Name)
-        ensures held { (b : Name) (n : ℕ) → has_object self.new b n
-            ≡ (not (is_ancestor action.now b) && has_object self.old b n) }
-        ensures room { (b : Name) → HasRoomBelow self.old b → HasRoomBelow self.new b }
+        ensures held { (b : Name) (n : ℕ) → has_object self.new.rows b n
+            ≡ (not (is_ancestor action.now b) && has_object self.old.rows b n) }
+        ensures room { (b : Name) → HasRoomBelow self.old.rows b → HasRoomBelow self.new.rows b }
     {
         match &mut self.kept {
             Kept::Few(few) => few.drop_below(action),
@@ -180,7 +184,8 @@ impl HeldObjects {
     /// This takes no memory.
     pub fn retain<H: Holding>(&mut self, holding: &H)
         ensures { (b : Name) (n : ℕ)
-            → has_object self.new b n ≡ (has_object self.old b n && H.holds holding.now b n) }
+            → has_object self.new.rows b n
+            ≡ (has_object self.old.rows b n && H.holds holding.now b n) }
     {
         match &mut self.kept {
             Kept::Few(few) => few.retain(holding),
@@ -192,12 +197,13 @@ impl HeldObjects {
 impl HeldObjects {
     // Makes room for so many more objects of the holder.
     fn reserve(&mut self, holder: &Name, additional: usize) -> Result<(), AllocError>
-        ensures held { (b : Name) → objects_at self.new b ≡ objects_at self.old b }
+        ensures held { (b : Name) → objects_at self.new.rows b ≡ objects_at self.old.rows b }
         ensures room { OnOk result
-            (length (objects_at self.old holder.now) + additional ≤ room_at self.new holder.now) }
-        ensures others { (b : Name) → room_at self.old b ≤ room_at self.new b }
-        ensures below { (b : Name) → count_below self.new b ≡ count_below self.old b }
-        ensures err { OnErr result (self.new ≡ self.old) }
+            (length (objects_at self.old.rows holder.now) + additional
+            ≤ room_at self.new.rows holder.now) }
+        ensures others { (b : Name) → room_at self.old.rows b ≤ room_at self.new.rows b }
+        ensures below { (b : Name) → count_below self.new.rows b ≡ count_below self.old.rows b }
+        ensures err { OnErr result (self.new.rows ≡ self.old.rows) }
     {
         self.make_tree(holder)?;
         match &mut self.kept {
@@ -209,7 +215,7 @@ impl HeldObjects {
     // How many objects the action and its descendants have, each as often as one of them has it, if a number holds
     // that.
     fn count_below(&self, action: &Name) -> Option<usize>
-        ensures { IfSome result (λ count. count ≡ count_below self.now action.now) }
+        ensures { IfSome result (λ count. count ≡ count_below self.now.rows action.now) }
     {
         match &self.kept {
             Kept::Few(few) => few.count_below(action),
@@ -220,7 +226,7 @@ impl HeldObjects {
     // Goes over to a tree where the vector has as many rows as it is to have, and none of the holder. Fails only if
     // memory runs out.
     fn make_tree(&mut self, holder: &Name) -> Result<(), AllocError>
-        ensures { self.new ≡ self.old }
+        ensures { self.new.rows ≡ self.old.rows }
     {
         let Kept::Few(few) = &self.kept else {
             return Ok(());

@@ -1,5 +1,5 @@
 -- Objects of which nobody holds anything yet.
-use Rattle.std.proofs.Common.{List, None, Option, Some, [], ap, false, inl, inr, length, refl, subst, suc, sym, true, zero, ℕ, ◌++◌, ◌∙◌, ◌∷◌, ◌≡◌, ◌≤◌, ◌⊎◌}
+use Rattle.std.proofs.Common.{Bool, List, None, Option, Some, [], ap, false, inl, inr, length, refl, subst, suc, sym, true, zero, ℕ, ◌++◌, ◌∙◌, ◌∷◌, ◌≡◌, ◌≤◌, ◌⊎◌}
 use Rattle.std.specs.Prelude.{slice_get}
 use Rattle.std.proofs.lemmas.Option.{none-some, same_Some}
 use Rattle.action_names.specs.Names.{Name}
@@ -45,8 +45,8 @@ one_more P os more k n pushed number is have i x e = all i (sym (ap (λ l. objec
     ]
 
 -- so they are those of a history in which nothing happened
-pub begun_stands : (opening : Opening) (g : ℕ) (os : List Kept) → 1 ≤ g → length os ≡ length (objects_at opening.setup g) → HaveBegun opening g os
-    → AreObjects opening [] (record { guardian = g; objects = os; held = [] })
+pub begun_stands : {renames : Bool} → (opening : Opening) (g : ℕ) (os : List Kept) → 1 ≤ g → length os ≡ length (objects_at opening.setup g) → HaveBegun opening g os
+    → AreObjects opening [] (record { guardian = g; objects = os; held = []; renames = renames })
 begun_stands opening g os low count have = record {
   guardian = low;
   count = count;

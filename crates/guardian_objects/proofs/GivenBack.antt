@@ -395,8 +395,8 @@ none_recorded_at c = record {
   adders = λ a. refl;
 }
 
-pub nothing_given : (opening : Opening) (g : ℕ) (os : List Kept) → 1 ≤ g → length os ≡ length (objects_at opening.setup g) → AreUntouched opening g os
-    → AreGivenBack opening [] (record { guardian = g; objects = os; held = [] })
+pub nothing_given : {renames : Bool} → (opening : Opening) (g : ℕ) (os : List Kept) → 1 ≤ g → length os ≡ length (objects_at opening.setup g) → AreUntouched opening g os
+    → AreGivenBack opening [] (record { guardian = g; objects = os; held = []; renames = renames })
 nothing_given opening g os low count are = record {
   guardian = low;
   count = count;

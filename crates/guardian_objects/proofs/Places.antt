@@ -156,12 +156,12 @@ changed_none changes os = record {
 
 -- with the same number of the guardian
 pub same_guardian : (opening : Opening) (stands : ObjectId → Standing) (g : ℕ) (new : Indexed) → new.guardian ≡ g
-    → Stand opening stands (record { guardian = g; objects = new.objects; held = new.held }) → Stand opening stands new
+    → Stand opening stands (record { guardian = g; objects = new.objects; held = new.held; renames = new.renames }) → Stand opening stands new
 same_guardian opening stands g new e stand =
-    subst (λ h. Stand opening stands (record { guardian = h; objects = new.objects; held = new.held })) (sym e) stand
+    subst (λ h. Stand opening stands (record { guardian = h; objects = new.objects; held = new.held; renames = new.renames })) (sym e) stand
 
 -- Where each shows how it is to stand, and the index has what it says of it, all stand so.
-pub stand_after : (opening : Opening) (stands then_stands : ObjectId → Standing) (old : Indexed) (os : List Kept) (held : Rows) → Stand opening stands old → length os ≡ length old.objects
+pub stand_after : {renames : Bool} → (opening : Opening) (stands then_stands : ObjectId → Standing) (old : Indexed) (os : List Kept) (held : Rows) → Stand opening stands old → length os ≡ length old.objects
     → ((n : ℕ) (k l : Kept) → object_at old.objects n ≡ Some k → object_at os n ≡ Some l → Shows (first_content opening (object_of old n)) (stands (object_of old n)) (seen k)
     → Shows (first_content opening (object_of old n)) (then_stands (object_of old n)) (seen l))
     → ((b : Name) (n : ℕ) (k l : Kept) → object_at old.objects n ≡ Some k → object_at os n ≡ Some l
@@ -169,7 +169,7 @@ pub stand_after : (opening : Opening) (stands then_stands : ObjectId → Standin
     → Shows (first_content opening (object_of old n)) (then_stands (object_of old n)) (seen l)
     → ((a : Name) → has_object old.held a n ≡ is_concerned true (seen k).locks a) → has_object held b n ≡ is_concerned true (seen l).locks b)
     → ((b : Name) (n : ℕ) → object_at old.objects n ≡ None → ((a : Name) → has_object old.held a n ≡ false) → has_object held b n ≡ false)
-    → Stand opening then_stands (record { guardian = old.guardian; objects = os; held = held })
+    → Stand opening then_stands (record { guardian = old.guardian; objects = os; held = held; renames = renames })
 stand_after opening stands then_stands old os held stand count shows index none = record {
   guardian = stand.guardian;
   count = count ∙ stand.count;

@@ -12,9 +12,9 @@ use Rattle.run_model.specs.Openings.{Opening, first_content}
 use Rattle.object_laws.specs.Laws.{is_concerned}
 use Rattle.object_laws.specs.Shown.{Shows}
 use Rattle.atomic_object.specs.Kept.{KeepsRoom, Kept, has_room, seen}
-use Rattle.guardian_index.specs.Held.{HasRoomBelow, HasRoomFrom, has_number, objects_at, room_at}
+use Rattle.guardian_index.specs.Held.{HasRoomBelow, MayBeHanded, has_number, objects_at, room_at}
 use Rattle.guardian_index.proofs.Changes.{room_from}
-use Rattle.guardian_objects.specs.Objects.{AreSome, Indexed, Keeps, Stand, concerns_at, holds_of, object_at, object_of}
+use Rattle.guardian_objects.specs.Objects.{AreSome, Indexed, Keeps, Stand, concerns_at, holds_of, index_of, object_at, object_of}
 use Rattle.guardian_objects.specs.Outcomes.{HasIndexRoom, HasRoomFor, IsReadyAt}
 use Rattle.guardian_objects.specs.Turns.{AreChanged, HasRoomAt, HasRoomOf, IsRoomier}
 use Rattle.guardian_objects.specs.declared.outcomes.Telling.{Telling}
@@ -137,21 +137,24 @@ roomier_of old new to n roomier room l after =
     of k m None more had = tt
     of k m (Some b) more had = more b had
 
--- in the index
-pub roomier_index : (alone : Bool) (old new : Indexed) (a : Name) (to : Option Name) → IsRoomier old new → IfSome to (λ h. HasIndexRoom alone old a h)
-    → IfSome to (λ h. HasIndexRoom alone new a h)
-roomier_index alone old new a None roomier had = tt
-roomier_index false old new a (Some h) roomier had = roomier.below h had
-roomier_index true old new a (Some h) roomier had = within _ _ _ _ _ _ (ap (length {A = ℕ}) (roomier.held h)) (ap (length {A = ℕ}) (roomier.held a)) had (roomier.room h) where
-  within : (m n p q r s : ℕ) → p ≡ m → q ≡ n → m + n ≤ r → r ≤ s → p + q ≤ s
-  within m n p q r s e d fits more = omega arith
+-- in the index, for what is told with others
+pub roomier_below : (old new : Indexed) (a : Name) (to : Option Name) → IsRoomier old new → IfSome to (λ h. HasIndexRoom false old a h)
+    → IfSome to (λ h. HasIndexRoom false new a h)
+roomier_below old new a None roomier had = tt
+roomier_below old new a (Some h) roomier had = roomier.below h had
+
+-- and for what is told alone, where the index stays
+pub roomier_index : (alone : Bool) (old new : Indexed) (a : Name) (to : Option Name) → IsRoomier old new → index_of new ≡ index_of old
+    → IfSome to (λ h. HasIndexRoom alone old a h) → IfSome to (λ h. HasIndexRoom alone new a h)
+roomier_index false old new a to roomier same had = roomier_below old new a to roomier had
+roomier_index true old new a to roomier same had = subst (λ i. IfSome to (λ h. MayBeHanded i h a)) (sym same) had
 
 -- whatever room there is, it is enough for one that hands on to a proper ancestor
 pub room_alone : (alone : Bool) (o : Indexed) (a : Name) (to : Option Name) → IfSome to (λ h. is_proper_ancestor h a ≡ true)
-    → IfSome to (λ h. HasIndexRoom alone o a h) → IfSome to (λ h. HasRoomFrom o.held h a)
+    → IfSome to (λ h. HasIndexRoom alone o a h) → IfSome to (λ h. MayBeHanded (index_of o) h a)
 room_alone alone o a None above room = tt
 room_alone true o a (Some h) above room = room
-room_alone false o a (Some h) above room = room_from o.held h a above room
+room_alone false o a (Some h) above room = λ needs. room_from o.held h a above room
 
 -- what an outcome concerns
 pub roomier_concerns : (own : Bool) (old new : Indexed) (a : Name) (n : ℕ) → IsRoomier old new → concerns_at own new.objects a n ≡ true → concerns_at own old.objects a n ≡ true
@@ -173,16 +176,22 @@ still_there old new n count h =
     let g = object_before new old n f.0 (sym count) f.1 in
     ap (λ o. is_some o) g.1
 
--- for all of a telling
-pub roomier_fits : (alone : Bool) (old new : Indexed) → IsRoomier old new → (t : Telling) → HasRoomFor alone old t → HasRoomFor alone new t
-roomier_fits alone old new roomier t had = record {
-  index = roomier_index alone old new t.action t.to roomier had.index;
+-- for all of a telling with others
+roomier_fits : (old new : Indexed) → IsRoomier old new → (t : Telling) → HasRoomFor false old t → HasRoomFor false new t
+roomier_fits old new roomier t had = record {
+  index = roomier_below old new t.action t.to roomier had.index;
   rising = had.rising;
   ready = each_weaker (IsReadyAt old t) (IsReadyAt new t) t.at.items (λ x h. (h.0, roomier_of old new t.to x.0 roomier h.1)) had.ready;
-  below = λ n h. had.below n (roomier_concerns (alone && t.committed) old new t.action n roomier h);
+  below = λ n h. had.below n (roomier_concerns false old new t.action n roomier h);
   there = each_weaker (λ (x : ℕ × Option Name). is_some (object_at old.objects x.0) ≡ true) (λ x. is_some (object_at new.objects x.0) ≡ true) t.at.items
       (λ x h. still_there old.objects new.objects x.0 roomier.count h) had.there;
 }
+
+-- for all tellings, of which there is none yet where one is told alone
+pub all_fit : (alone : Bool) (old new : Indexed) → IsRoomier old new → (ts : List Telling) → (alone ≡ true → ts ≡ []) → AllByRecursion (HasRoomFor alone old) ts
+    → AllByRecursion (HasRoomFor alone new) ts
+all_fit true old new roomier ts none had = subst (λ l. AllByRecursion (HasRoomFor true new) l) (sym (none refl)) tt
+all_fit false old new roomier ts none had = each_weaker (HasRoomFor false old) (HasRoomFor false new) ts (λ t h. roomier_fits old new roomier t h) had
 
 -- ---- what is planned
 

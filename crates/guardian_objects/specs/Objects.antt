@@ -14,13 +14,18 @@ use Rattle.run_model.specs.Openings.{Opening, first_content, objects_at}
 use Rattle.object_laws.specs.Laws.{is_concerned}
 use Rattle.object_laws.specs.Shown.{Shows}
 use Rattle.atomic_object.specs.Kept.{Kept, seen}
-use Rattle.guardian_index.specs.Held.{Rows, has_object}
+use Rattle.guardian_index.specs.Held.{Index, Rows, has_object}
 
 -- the objects of a guardian in order, and who holds something at which
 pub record Indexed : Type 0 where
   pub guardian : ℕ
   pub objects : List Kept
   pub held : Rows
+  pub renames : Bool
+
+-- the index alone
+abbrev pub index_of : Indexed → Index
+index_of o = record { rows = o.held; renames = o.renames }
 
 -- the object of this number
 abbrev pub object_of : Indexed → ℕ → ObjectId

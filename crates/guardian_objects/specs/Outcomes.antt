@@ -12,10 +12,10 @@ use Rattle.run_model.specs.LocalReadings.{LocalEvent, told_committed_here}
 use Rattle.run_model.specs.Openings.{Opening}
 use Rattle.run_model.specs.Telling.{holder_by}
 use Rattle.atomic_object.specs.Kept.{Kept, has_room}
-use Rattle.guardian_index.specs.Held.{HasRoomBelow, HasRoomFrom, IsRising, has_number}
+use Rattle.guardian_index.specs.Held.{HasRoomBelow, IsRising, MayBeHanded, has_number}
 use Rattle.guardian_laws.specs.Outcomes.{AgreesOnOutcomes}
 use Rattle.object_laws.specs.EventLaws.{is_crash}
-use Rattle.guardian_objects.specs.Objects.{AreObjects, Indexed, concerns_at, object_at}
+use Rattle.guardian_objects.specs.Objects.{AreObjects, Indexed, concerns_at, index_of, object_at}
 use Rattle.guardian_objects.specs.declared.outcomes.Telling.{Telling}
 
 -- the outcomes alone
@@ -32,11 +32,12 @@ IsReadyAt o t x =
 abbrev pub is_alone : {X : Type 0} → List X → Bool
 is_alone xs = length xs == 1
 
--- There is room in the index for what the action hands on: where it is told alone, for what it has. Of several that
+-- There is room in the index for what the action hands on: where it is told alone, for what it has, if the next holder
+-- needs room for that. Of several that
 -- are told together one may hand on what another handed to it; then there is room for all that the next holder and
 -- its descendants have.
 abbrev pub HasIndexRoom : Bool → Indexed → Name → Name → Type 0
-HasIndexRoom true o a h = HasRoomFrom o.held h a
+HasIndexRoom true o a h = MayBeHanded (index_of o) h a
 HasIndexRoom false o a h = HasRoomBelow o.held h
 
 -- There is room for what the next holder is handed, in the index and at each object that the outcome concerns.

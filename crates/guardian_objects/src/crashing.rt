@@ -64,7 +64,7 @@ impl Objects {
 // nothing.
 fn crash_held<S: Survivors>(objects: &mut [Object], held: &HeldObjects, survivors: &S)
     requires tops { (a : Name) → IsTrue (S.stays survivors.now a) → IsTrue (is_top a) }
-    ensures { HaveCrashed (S.stays survivors.now) held.now objects.old objects.new }
+    ensures { HaveCrashed (S.stays survivors.now) held.now.rows objects.old objects.new }
 {
     match held.rows() {
         HeldRows::Few(few) => {

@@ -40,8 +40,12 @@ impl Model for Objects {
 
     ghost Value = { Indexed };
 
-    ghost view = { λ a.
-        record { guardian = a.guardian; objects = a.objects.items; held = a.held } };
+    ghost view = { λ a. record {
+      guardian = a.guardian;
+      objects = a.objects.items;
+      held = a.held.rows;
+      renames = a.held.renames;
+    } };
 }
 
 impl Objects {

@@ -8,7 +8,7 @@ ghost use Rattle.run_model.specs.Telling.{holder_by};
 ghost use Rattle.atomic_object.specs.Staying.{OutcomesRise};
 ghost use Rattle.guardian_index.specs.Held.{IsRising, has_number, objects_at};
 ghost use Rattle.tellings.specs.Hearing.{AreTold};
-ghost use Rattle.guardian_objects.specs.Objects.{AreObjects, AreSome, Keeps, object_at};
+ghost use Rattle.guardian_objects.specs.Objects.{AreObjects, AreSome, Keeps, index_of, object_at};
 ghost use Rattle.guardian_objects.specs.Outcomes.{ArePlanned, Fits, HasIndexRoom, HasRoomFor, IsHearing, OnlyTells, is_alone, outcomes_of};
 ghost use Rattle.guardian_objects.specs.Turns.{Aborts, AreChanged, Commits, Has, HasRoomAt, HasRoomOf, Hears, IsHeard, IsReady, IsRoomier, KeepsReady, MayCommitAt};
 
@@ -239,6 +239,7 @@ impl Objects {
     fn make_room_at(&mut self, number: u32, to: Option<&Name>) -> Result<Option<Name>, AllocError>
         requires { (1 ≤ number) × (number ≤ length self.old.objects) }
         ensures roomier { IsRoomier self.old self.new }
+        ensures index { index_of self.new ≡ index_of self.old }
         ensures copied { IfOk result (λ next. next ≡ name_of to.entry) }
         ensures room { OnOk result (HasRoomOf self.new (name_of to.entry) number) }
     {
@@ -328,7 +329,7 @@ impl Objects {
         while let Some((number, next)) = at.pop() {
             self.hand_on_at(number, &action, next);
         }
-        self.held.hand_on(&action, to.as_ref());
+        self.held.hand_on(&action, to);
         at
     }
 
@@ -339,7 +340,7 @@ impl Objects {
         ensures objects { AreChanged (Commits action.now to) (number ∷ [])
             self.old.objects self.new.objects }
         ensures guardian { self.new.guardian ≡ self.old.guardian }
-        ensures held { self.new.held ≡ self.old.held }
+        ensures index { index_of self.new ≡ index_of self.old }
     {
         self.objects[number as usize - 1].told_commit(action, to);
     }

@@ -1,8 +1,8 @@
-use Rattle.std.proofs.Common.{◌≡◌, true, ◌&&◌, ◌||◌, not, ◌∙◌, sym, ap, subst}
+use Rattle.std.proofs.Common.{◌≡◌, ◌≤◌, true, ◌&&◌, ◌||◌, not, ◌∙◌, sym, ap, subst, arith}
 use Rattle.std.specs.Prelude.{IfSome, IsTrue}
 use Rattle.std.specs.Option.{option_copied as name_of}
 use Rattle.action_names.specs.Names.{same_name, is_proper_ancestor}
-use Rattle.guardian_index.specs.Held.{Row, Rows, HasRoomFrom, has_object, is_name_of, rows_in}
+use Rattle.guardian_index.specs.Held.{Row, Rows, HasRoomFrom, has_object, is_name_of, room_at, rows_in}
 use Rattle.guardian_index.proofs.Rows.{orderly_out}
 use Rattle.guardian_index.proofs.Changes.{rowless, row_is, out_rows, out_counted, nothing_handed, given_up, handed, fits, others_room, room_after}
 use Rattle.guardian_index.proofs.trees.TreeRows.hand_on.Goals as goal
@@ -71,4 +71,4 @@ returns-clause-room c = λ b other room.
     room_after s (rows_in new) c.insert_all.new.self a h c.deref.result.now up
     (c.deref.ensures.value ∙ ap (λ (r : Row). r.objects) (row_is s es a c.in-Some.objects c.self.view_is c.in-Some.ensures.value))
     (out_rows s es new a c.self.view_is c.self.invariant.names c.remove.ensures.entries)
-    (out_counted s es new a c.self.view_is c.remove.ensures.entries) c.insert_all.ensures.room c.insert_all.ensures.below b other room
+    (out_counted s es new a c.self.view_is c.remove.ensures.entries) (λ d. subst (λ n. room_at (rows_in new) d ≤ n) (sym (c.insert_all.ensures.room d)) (omega arith)) c.insert_all.ensures.below b other room

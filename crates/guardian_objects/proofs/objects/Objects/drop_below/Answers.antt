@@ -95,7 +95,7 @@ returns-clause-told c = λ opening stands stand may.
     let t = c.args.telling in
     let none : c.loop-number.at.items ≡ [] = nil_from_length c.loop-number.at.items (omega (arith, c.loop-number.at.ok.0, c.in_default.ensures.cases)) in
     let own = own_name t.action c.depth-depth.ensures.named in
-    let held : c.self.inside.held ≡ c.args.self.now.held = ap (λ o. o.held) c.self.view_is ∙ c.loop-number.invariant.held in
+    let held : c.self.inside.held.rows ≡ c.args.self.now.held = ap (λ o. o.held) c.self.view_is ∙ c.loop-number.invariant.held in
     let objects : AreChanged (Aborts t.action) (numbers_of t.at.items) c.args.self.now.objects c.self.inside.objects.items =
     subst (λ os. AreChanged (Aborts t.action) (numbers_of t.at.items) c.args.self.now.objects os) (sym (ap (λ o. o.objects) c.self.view_is))
     (abort_all c.args.self.now.objects t.action t.at.items c.loop-number.at.items c.loop-number.self.objects none c.loop-number.invariant.will) in
@@ -109,7 +109,7 @@ returns-clause-ready c =
     let t = c.args.telling in
     let none : c.loop-number.at.items ≡ [] = nil_from_length c.loop-number.at.items (omega (arith, c.loop-number.at.ok.0, c.in_default.ensures.cases)) in
     let own = own_name t.action c.depth-depth.ensures.named in
-    let held : c.self.inside.held ≡ c.args.self.now.held = ap (λ o. o.held) c.self.view_is ∙ c.loop-number.invariant.held in
+    let held : c.self.inside.held.rows ≡ c.args.self.now.held = ap (λ o. o.held) c.self.view_is ∙ c.loop-number.invariant.held in
     let objects : AreChanged (Aborts t.action) (numbers_of t.at.items) c.args.self.now.objects c.self.inside.objects.items =
     subst (λ os. AreChanged (Aborts t.action) (numbers_of t.at.items) c.args.self.now.objects os) (sym (ap (λ o. o.objects) c.self.view_is))
     (abort_all c.args.self.now.objects t.action t.at.items c.loop-number.at.items c.loop-number.self.objects none c.loop-number.invariant.will) in

@@ -1,9 +1,9 @@
 use Rattle.std.proofs.Common.{Bor, None, Option, Some, ap, arith, false, length, refl, subst, sym, ℕ, ◌+◌, ◌∙◌, ◌≡◌, ◌≤◌}
 use Rattle.std.proofs.lemmas.Result.{on_ok_weaker}
-use Rattle.std.specs.Prelude.{MatchOption}
+use Rattle.std.specs.Prelude.{IsTrue, MatchOption}
 use Rattle.std.specs.Option.{IfSome, option_copied}
 use Rattle.action_names.specs.Names.{Name}
-use Rattle.guardian_index.specs.Held.{HasRoomBelow, objects_at, room_at}
+use Rattle.guardian_index.specs.Held.{HasRoomBelow, needs_room, objects_at, room_at}
 use Rattle.guardian_objects.specs.Objects.{Indexed}
 use Rattle.guardian_objects.specs.Outcomes.{HasIndexRoom, HasRoomFor}
 use Rattle.guardian_objects.specs.Turns.{IsRoomier}
@@ -25,8 +25,8 @@ returns-clause-roomier c = by_view (λ o m. IsRoomier o m) _ _ _ c.self.view_is
 pub returns-clause-room : goal.returns-clause-room
 returns-clause-room c =
     let a = c.args.action.now in
-    let new : Indexed = record { guardian = c.self.inside.guardian; objects = c.self.inside.objects.items; held = c.make_room_below.new.self } in
-    on_ok_weaker c.make_room_below.result (λ (room : HasRoomBelow c.make_room_below.new.self c.in-Some.next.now).
+    let new : Indexed = record { guardian = c.self.inside.guardian; objects = c.self.inside.objects.items; held = c.make_room_below.new.self.rows; renames = c.make_room_below.new.self.renames } in
+    on_ok_weaker c.make_room_below.result (λ (room : HasRoomBelow c.make_room_below.new.self.rows c.in-Some.next.now).
     subst (λ o. IfSome (option_copied o) (λ h. HasIndexRoom c.args.alone new a h)) (sym c.in-Some.is)
     (subst (λ b. HasIndexRoom b new a c.in-Some.next.now) (sym c.if-alone.false) room)) c.make_room_below.ensures.room
 
@@ -38,16 +38,16 @@ pub returns-then-alone-clause-room : goal.returns-then-alone-clause-room
 returns-then-alone-clause-room c =
     let a = c.args.action.now in
     let next = c.in-Some.next.now in
-    let before = c.self.inside.held in
+    let before = c.self.inside.held.rows in
     let after = c.make_room_for.new.self in
-    let new : Indexed = record { guardian = c.self.inside.guardian; objects = c.self.inside.objects.items; held = after } in
-    on_ok_weaker c.make_room_for.result (λ (room : length (objects_at before next) + c.args.count ≤ room_at after next).
+    let new : Indexed = record { guardian = c.self.inside.guardian; objects = c.self.inside.objects.items; held = after.rows; renames = after.renames } in
+    on_ok_weaker c.make_room_for.result (λ (room : IsTrue (needs_room after next) → length (objects_at before next) + c.args.count ≤ room_at after.rows next).
     subst (λ o. IfSome (option_copied o) (λ h. HasIndexRoom c.args.alone new a h)) (sym c.in-Some.is)
     (subst (λ b. HasIndexRoom b new a next) (sym c.if-alone.true)
-    (within (length (objects_at before next)) c.args.count _ _ _ (ap (length {A = ℕ}) (c.make_room_for.ensures.held next))
+    (λ needs. within (length (objects_at before next)) c.args.count _ _ _ (ap (length {A = ℕ}) (c.make_room_for.ensures.held next))
     (ap (length {A = ℕ}) (c.make_room_for.ensures.held a)
     ∙ sym (subst (λ o. IfSome (option_copied o) (λ h. c.args.count ≡ length (objects_at before a))) c.in-Some.is
-    (subst (λ o. IfSome (option_copied c.args.to) (λ h. c.args.count ≡ length (objects_at o.held a))) (sym c.self.view_is) (c.requires.count c.if-alone.true)))) room))) c.make_room_for.ensures.room
+    (subst (λ o. IfSome (option_copied c.args.to) (λ h. c.args.count ≡ length (objects_at o.held a))) (sym c.self.view_is) (c.requires.count c.if-alone.true)))) (room needs)))) c.make_room_for.ensures.room
   where
     within : (m n p q r : ℕ) → p ≡ m → q ≡ n → m + n ≤ r → p + q ≤ r
     within m n p q r e d fits = omega arith

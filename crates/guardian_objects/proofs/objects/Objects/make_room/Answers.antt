@@ -64,7 +64,7 @@ loop-number-preserved c =
     let lt : i < length numbers = omega (arith, c.loop-number-test.true) in
     record {
       roomier = roomier_more c.args.self.now old new c.loop-number.invariant.roomier c.make_room_at.ensures.roomier;
-      index = roomier_index c.args.alone old new c.args.action.now to c.make_room_at.ensures.roomier c.loop-number.invariant.index;
+      index = roomier_index c.args.alone old new c.args.action.now to c.make_room_at.ensures.roomier c.make_room_at.ensures.index c.loop-number.invariant.index;
       numbers = ap (λ l. numbers_of l) c.in_ok-push.ensures.items
           ∙ map-append (λ (y : ℕ × Option Name). y.0) at ((x, next) ∷ [])
           ∙ ap (λ l. l ++ x ∷ []) c.loop-number.invariant.numbers

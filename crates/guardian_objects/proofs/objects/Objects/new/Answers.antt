@@ -37,7 +37,7 @@ pub returns-clause-objects : goal.returns-clause-objects
 returns-clause-objects c =
     let opening = opening_in c.args.opening.now in
     let os = c.loop-place.objects.items in
-    subst (λ h. AreObjects opening [] (record { guardian = c.args.guardian; objects = os; held = h })) (sym c.new-held.ensures)
+    subst (λ h. AreObjects opening [] (record { guardian = c.args.guardian; objects = os; held = h; renames = c.new-held.result.renames })) (sym c.new-held.ensures)
     (begun_stands opening c.args.guardian os c.requires
     (let e : length os ≡ length c.objects-count.result.now = omega (arith, c.loop-place.invariant.count, c.loop-place-test.false, c.loop-place.auto.place-end) in
     e ∙ ap (λ l. length l) (c.objects-count.ensures.found c.requires ∙ ap (λ s. objects_at s c.args.guardian) c.setup.ensures))
@@ -47,7 +47,7 @@ pub returns-clause-given : goal.returns-clause-given
 returns-clause-given c =
     let opening = opening_in c.args.opening.now in
     let os = c.loop-place.objects.items in
-    subst (λ h. AreGivenBack opening [] (record { guardian = c.args.guardian; objects = os; held = h })) (sym c.new-held.ensures)
+    subst (λ h. AreGivenBack opening [] (record { guardian = c.args.guardian; objects = os; held = h; renames = c.new-held.result.renames })) (sym c.new-held.ensures)
     (nothing_given opening c.args.guardian os c.requires
     (let e : length os ≡ length c.objects-count.result.now = omega (arith, c.loop-place.invariant.count, c.loop-place-test.false, c.loop-place.auto.place-end) in
     e ∙ ap (λ l. length l) (c.objects-count.ensures.found c.requires ∙ ap (λ s. objects_at s c.args.guardian) c.setup.ensures))

@@ -1,11 +1,13 @@
-use Rattle.std.proofs.Common.{[], ap, arith, length, map, subst, sym, take, ◌+◌, ◌-◌, ◌++◌, ◌<◌, ◌∙◌, ◌∷◌, ◌≡◌}
+use Rattle.std.proofs.Common.{Bool, List, [], ap, arith, length, map, refl, subst, sym, take, true, ℕ, ◌+◌, ◌-◌, ◌++◌, ◌<◌, ◌∙◌, ◌∷◌, ◌≡◌}
 use Rattle.std.specs.Prelude.{slice_get}
 use Rattle.std.specs.List.{AllByRecursion}
 use Rattle.std.specs.List.Sorted.{IsStrictlySortedBy}
+use Rattle.std.proofs.lemmas.Bool.{eqb-true}
 use Rattle.std.proofs.lemmas.List.{take_all, take_more}
-use Rattle.action_names.specs.Names.{name_cmp}
+use Rattle.action_names.specs.Names.{Name, name_cmp}
 use Rattle.guardian_objects.specs.Outcomes.{HasRoomFor, is_alone, outcomes_of}
-use Rattle.guardian_objects.proofs.Room.{each_got, each_last, each_weaker, roomier_fits, roomier_keeps, roomier_more, roomier_same, roomier_some}
+use Rattle.guardian_objects.specs.declared.outcomes.Telling.{Telling}
+use Rattle.guardian_objects.proofs.Room.{all_fit, each_got, each_last, roomier_keeps, roomier_more, roomier_same, roomier_some}
 use Rattle.guardian_objects.proofs.Turning.{same_alone, same_names}
 use Rattle.guardian_objects.proofs.SoFar.{next_planned, none_planned, one_planned}
 use Rattle.guardian_objects.proofs.objects.Objects.plan.Goals as goal
@@ -26,6 +28,17 @@ plan_one-requires c = record {
       (c.last-before.ensures.value ∙ ap (λ l. slice_get l (length c.deref.result.now - 1)) c.deref.ensures.value);
 }
 
+-- before one that is told alone none is planned
+none_yet : (outcomes : List (Name × Bool)) (i : ℕ) (ts : List Telling) → is_alone outcomes ≡ true → i < length outcomes → outcomes_of ts ≡ take i outcomes → ts ≡ []
+none_yet outcomes i ts one lt so_far =
+    let count : length outcomes ≡ 1 = eqb-true (length outcomes) 1 one in
+    let first : i ≡ 0 = omega (arith, count, lt) in
+    empty ts (so_far ∙ ap (λ k. take k outcomes) first)
+  where
+    empty : (us : List Telling) → outcomes_of us ≡ [] → us ≡ []
+    empty [] e = refl
+    empty (u ∷ us) e = absurd (cc)
+
 pub loop-action-preserved : goal.loop-action-preserved
 loop-action-preserved c =
     let outcomes = c.args.outcomes.now in
@@ -39,8 +52,8 @@ loop-action-preserved c =
       roomier = roomier_more c.args.self.now c.loop-action.self c.plan_one.new.self c.loop-action.invariant.roomier c.plan_one.ensures.roomier;
       room = subst (λ l. AllByRecursion (HasRoomFor alone c.plan_one.new.self) l) (sym c.in_ok-push.ensures.items)
           (each_last (HasRoomFor alone c.plan_one.new.self) c.loop-action.planned.tellings.items t
-          (each_weaker (HasRoomFor alone c.loop-action.self) (HasRoomFor alone c.plan_one.new.self) c.loop-action.planned.tellings.items
-          (λ u had. roomier_fits alone c.loop-action.self c.plan_one.new.self c.plan_one.ensures.roomier u had) c.loop-action.invariant.room)
+          (all_fit alone c.loop-action.self c.plan_one.new.self c.plan_one.ensures.roomier c.loop-action.planned.tellings.items
+          (λ one. none_yet outcomes i c.loop-action.planned.tellings.items one lt c.loop-action.invariant.outcomes) c.loop-action.invariant.room)
           (subst (λ b. HasRoomFor b c.plan_one.new.self t) c.is_alone-alone.ensures c.in_ok-telling.ensures.room));
       outcomes = one_planned c.loop-action.planned.tellings.items c.push.new.self.items t (take i outcomes) (take (i + 1) outcomes) x c.in_ok-push.ensures.items more
           c.in_ok-telling.ensures.action c.in_ok-telling.ensures.committed c.loop-action.invariant.outcomes;
