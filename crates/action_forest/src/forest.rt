@@ -169,9 +169,13 @@ impl Forest {
 
     /// On which guardians the action depends, with the least incarnation of each.
     pub fn depends(&self, path: &[u32]) -> Option<&Deps>
-        ensures { AtEach (trees self.now)
+        ensures least { AtEach (trees self.now)
             (λ opening registry. (g : ℕ) → option_and_then (λ depends. map.get depends.now g) result
             ≡ dependency_there path.now g registry) }
+        ensures entries { AtEach (trees self.now) (λ opening registry. MatchOption result
+            (entries_of opening (λ h. dependency_there path.now h registry) ≡ [])
+            (λ depends. map.entries depends.now
+            ≡ entries_of opening (λ h. dependency_there path.now h registry))) }
     {
         Some(&self.node(path)?.depends)
     }

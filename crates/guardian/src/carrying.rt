@@ -10,7 +10,7 @@ ghost use Rattle.guardian.specs.Writes.{fault_by};
 use crate::guardian::Guardian;
 use crate::records::recorded_in;
 use crate::writes::Write;
-use layer_contracts::{Draw, EventRef, Fault, Message};
+use layer_contracts::{Draw, EventRef, Fault, Lineage, Message};
 use run_model::{Answer, Name, Names, ObjectId, Op, Opening, Step};
 use stable_store::{Stable, StoreFault};
 use std::alloc::{AllocError, Global};
@@ -89,8 +89,17 @@ impl<S: Stable> layer_contracts::Guardian for Guardian<S> {
         self.memory.unsent_counts(&to.memory)
     }
 
-    fn plan(&mut self, event: &EventRef<'_>, message: &Message) -> Result<(), AllocError> {
-        self.memory.plan(event, message, &mut self.plan)
+    fn plan<L: Lineage>(
+        &mut self,
+        lineage: &L,
+        event: &EventRef<'_>,
+        message: &mut Message,
+    ) -> Result<(), AllocError> {
+        self.memory.plan(lineage, event, message, &mut self.plan)
+    }
+
+    fn plan_turn(&mut self, event: &EventRef<'_>) -> Result<(), AllocError> {
+        self.memory.plan_turn(event, &mut self.plan)
     }
 
     fn operate<D: Draw>(&mut self, event: &EventRef<'_>, stamp: &mut D) -> Result<u64, AllocError> {

@@ -19,7 +19,7 @@ use crate::naming::is_out;
 use crate::shared::{Answered, Deed, Drawing, OfRun, Shared};
 use crate::stepping::receipted;
 use crate::stored::StoredHistory;
-use layer_contracts::{Draw, EventRef, Fault, Guardian, Message};
+use layer_contracts::{Draw, EventRef, Fault, Guardian};
 use one_run::Part;
 use run_model::{Answer, Event, Refusal, Step};
 use std::alloc::{AllocError, Global};
@@ -101,8 +101,7 @@ fn keep_by_itself<G: Guardian, D: Draw>(
     if is_operation(event.step) {
         return Ok(guardian.operate(event, stamp)?);
     }
-    let nothing = Message::empty(alloc);
-    guardian.plan(event, &nothing)?;
+    guardian.plan_turn(event)?;
     guardian.carry_out(event, stamp)
 }
 

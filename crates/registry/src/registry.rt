@@ -6,7 +6,7 @@ ghost use Rattle.run_model.specs.Openings.{opening_in};
 use crate::actions::Actions;
 use crate::change::Change;
 use crate::hearing::Told;
-use layer_contracts::{EventRef, Forest, Guardian};
+use layer_contracts::{EventRef, Forest, Guardian, Lineage};
 use run_model::{Deps, Name, Opening};
 use std::alloc::{AllocError, Global};
 use std::marker::Model;
@@ -59,10 +59,26 @@ impl Registry {
     }
 }
 
+impl Lineage for Registry {
+    ghost use Rattle.registry.specs.Registries.{StandsIn};
+
+    ghost is_of = { StandsIn };
+
+    fn depends(&self, action: &Name) -> Option<&Deps> {
+        self.actions.forest.depends(action.components())
+    }
+
+    fn new_dependencies(&self, action: &Name, home: u32, life: u64) -> Result<Deps, AllocError> {
+        self.actions.forest.new_dependencies(action, home, life)
+    }
+}
+
 impl Forest for Registry {
     ghost use Rattle.registry.specs.Registries.{FitsRegistry, IsChangeOf, StandsIn};
 
     ghost stands = { StandsIn };
+
+    ghost is_one = { λ forest f stands. stands };
 
     ghost is_planned = { IsChangeOf };
 
@@ -108,10 +124,6 @@ impl Forest for Registry {
 
     fn dependencies(&self, action: &Name) -> Result<Deps, AllocError> {
         self.actions.forest.dependencies(action.components())
-    }
-
-    fn new_dependencies(&self, action: &Name, home: u32, life: u64) -> Result<Deps, AllocError> {
-        self.actions.forest.new_dependencies(action, home, life)
     }
 
     fn outcomes_below<G: Guardian>(

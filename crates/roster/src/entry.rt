@@ -1,8 +1,6 @@
 //! What an event makes of actions at a guardian.
 ghost use Rattle.std.specs.Prelude.{◌≡◌, ℕ, IfOk, IsTrue, None, Some};
-ghost use Rattle.std.specs.FinMap as map;
 ghost use Rattle.std.specs.Option.{option_map};
-ghost use Rattle.run_model.specs.LocalReadings.{least_of};
 
 use run_model::{Deps, EventRef, Name, Step};
 use std::alloc::{AllocError, Global};
@@ -107,10 +105,22 @@ impl Entry {
             turn: Turn::Stays,
         }
     }
+
+    /// Makes it one in which nothing stands, and keeps its room.
+    pub(crate) fn clear(&mut self)
+        ensures { written_in self.new ≡ record nothing_made { birth = self.new.birth } }
+    {
+        self.idle = false;
+        self.ended = None;
+        self.closed = None;
+        self.merged = None;
+        self.birth.maker = None;
+        self.begun.clear();
+        self.turn = Turn::Stays;
+    }
 }
 
 ghost use Rattle.roster.specs.Steps.{turn_in};
-ghost use Rattle.guardian_laws.specs.Sent.{sent_of};
 ghost use Rattle.roster.specs.Entries.{ConcernsNone};
 
 /// Whether the event begins, ends and closes no action, and leaves the guardian as it stood, as far as its kind tells.
@@ -132,21 +142,4 @@ pub(crate) fn turn_in(step: &Step) -> Turn
         Step::Recover(_) => Turn::Recovers,
         _ => Turn::Stays,
     }
-}
-
-/// What came of the action's dependencies: the first that came under its name.
-pub(crate) fn depends_in(
-    alloc: Global,
-    dependencies: &[(Name, Deps)],
-    action: &Name,
-) -> Result<Deps, AllocError>
-    ensures { IfOk result (λ depends. (h : ℕ)
-        → map.get depends h ≡ least_of (sent_of dependencies.now) action.now h) }
-{
-    for (name, depends) in dependencies {
-        if name == action {
-            return depends.copy();
-        }
-    }
-    Ok(Deps::new(alloc))
 }

@@ -12,7 +12,8 @@ ghost use Rattle.run_model.specs.Reopening.{life_before};
 ghost use Rattle.run_model.specs.StableContent.{Prepared};
 ghost use Rattle.guardian_laws.specs.Actions.{AgreesOnActions};
 
-use crate::entry::{Birth, Concerned, Entry, Row, Turn, concerns_none, depends_in, turn_in};
+use crate::entry::{Birth, Concerned, Entry, Row, Turn, concerns_none, turn_in};
+use layer_contracts::{Lineage, Sending};
 use places::{Places, Rows};
 use run_model::{Deps, EventRef, Name, Step};
 use std::alloc::{AllocError, Global};
@@ -144,14 +145,15 @@ impl Roster {
         Some(&self.row(places, action)?.depends)
     }
 
-    /// Copies what an event makes of the roster, with the dependencies that its messages brought, in place of what
-    /// another made of it, and makes places and room. Whether or not there is memory for it, the roster is that of the
-    /// same history.
-    pub fn plan(
+    /// Copies what an event makes of the roster, with the dependencies that it brings, in place of what another made
+    /// of it, and makes places and room. Whether or not there is memory for it, the roster is that of the same
+    /// history.
+    pub fn plan<L: Lineage>(
         &mut self,
         places: &mut Places,
         event: &EventRef<'_>,
-        dependencies: &[(Name, Deps)],
+        lineage: &L,
+        sending: Sending,
         entry: &mut Entry,
     ) -> Result<(), AllocError>
         ensures more { AreMore places.old places.new }
@@ -160,8 +162,9 @@ impl Roster {
             → IsRoster g here (table places.new self.new) }
         ensures crashes { crashes_of self.new ≡ crashes_of self.old }
         ensures fits { OnOk result (FitsEntry self.new entry.new) }
-        ensures planned { OnOk result (IsEntry (table places.new self.new) event.now
-            (sent_of dependencies.now) entry.new) }
+        ensures planned { OnOk result ((f : ForestState) → L.is_of lineage.now f
+            → IsEntry (table places.new self.new) event.now
+            (sent_by f event.now sending) entry.new) }
     {
         // Nothing is looked up where the event concerns no row.
         if concerns_none(event) {
@@ -170,7 +173,7 @@ impl Roster {
         }
         entry.idle = false;
         // Places come first: who is concerned is looked up among all names.
-        self.plan_begun(places, event, dependencies, &mut entry.begun)?;
+        self.plan_begun(places, event, lineage, sending, &mut entry.begun)?;
         let Concerned {
             ended,
             closed,
@@ -180,9 +183,21 @@ impl Roster {
         entry.closed = closed;
         entry.birth = self.birth_in(event.step, maker);
         entry.turn = turn_in(event.step);
-        entry.merged = self.plan_merge(places, event.step, dependencies)?;
+        entry.merged = self.plan_merge(places, event.step, lineage, sending)?;
         self.plan_count(maker, entry.begun.len())?;
         Ok(())
+    }
+
+    /// Writes what a crash or a recovery of the guardian makes of the roster into the entry.
+    pub fn plan_turn(&self, event: &EventRef<'_>, entry: &mut Entry)
+        requires { IsTrue (is_turn event.now.step) }
+        ensures fits { FitsEntry self.now entry.new }
+        ensures planned { (names : List Name)
+            → names_begun event.now.answer ≡ []
+            → IsEntry (table names self.now) event.now [] entry.new }
+    {
+        entry.clear();
+        entry.turn = turn_in(event.step);
     }
 
     /// Enters an event for which there is room. This cannot fail.
@@ -321,36 +336,43 @@ impl Roster {
     }
 
     // The place of the parent of an action that commits, if the parent has a row, and on what it depends then.
-    fn plan_merge(
+    fn plan_merge<L: Lineage>(
         &self,
         places: &Places,
         step: &Step,
-        dependencies: &[(Name, Deps)],
+        lineage: &L,
+        sending: Sending,
     ) -> Result<Option<(usize, Deps)>, AllocError>
-        ensures { IfOk result
-            (IsMerged (table places.now self.now) step.now (sent_of dependencies.now)) }
+        ensures { IfOk result (λ merged. (f : ForestState) (e : Event) → L.is_of lineage.now f
+            → e.step ≡ step.now
+            → IsMerged (table places.now self.now) step.now (sent_by f e sending) merged) }
     {
         match step {
-            Step::Commit(action) => self.plan_left(places, action, dependencies),
+            Step::Commit(action) => self.plan_left(places, action, lineage, sending),
             _ => Ok(None),
         }
     }
 
-    fn plan_left(
+    fn plan_left<L: Lineage>(
         &self,
         places: &Places,
         action: &Name,
-        dependencies: &[(Name, Deps)],
+        lineage: &L,
+        sending: Sending,
     ) -> Result<Option<(usize, Deps)>, AllocError>
-        ensures { IfOk result (IsLeft (table places.now self.now)
+        ensures { IfOk result (λ left. (f : ForestState) (e : Event) → L.is_of lineage.now f
+            → e.step ≡ Commit action.now → IsLeft (table places.now self.now)
             (placed (table places.now self.now) (above action.now))
-            (λ h. least_of (sent_of dependencies.now) action.now h)) }
+            (λ h. least_of (sent_by f e sending) action.now h) left) }
     {
         let place = self.parent_place(places, action)?;
         let Some(at) = place else {
             return Ok(None);
         };
-        let came = depends_in(self.alloc, dependencies, action)?;
+        let came = match sending {
+            Sending::OfKnown => lineage.depends(action),
+            Sending::Nothing | Sending::OfNew { .. } => None,
+        };
         let depends = self.left_with(at, came)?;
         Ok(Some((at, depends)))
     }
@@ -367,44 +389,61 @@ impl Roster {
     }
 
     // On what the action at the place depends, once what came is merged into that.
-    fn left_with(&self, at: usize, came: Deps) -> Result<Deps, AllocError>
+    fn left_with(&self, at: usize, came: Option<&Deps>) -> Result<Deps, AllocError>
         ensures { IfOk result (λ depends. (h : ℕ) (names : List Name) → map.get depends h
             ≡ lesser (said (λ row. map.get row.depends h) None
             (row_at (table names self.now) (Some at)))
-            (map.get came h)) }
+            (option_and_then (λ depends. map.get depends.now h) came)) }
     {
-        let Some(row) = self.row_at(Some(at)) else {
-            return Ok(came);
+        let mut depends = match self.row_at(Some(at)) {
+            Some(row) => row.depends.copy()?,
+            None => Deps::new(self.alloc),
         };
-        let mut depends = row.depends.copy()?;
-        depends.merge(&came)?;
+        let Some(came) = came else {
+            return Ok(depends);
+        };
+        depends.merge(came)?;
         Ok(depends)
     }
 
     // Makes places for what the event begins, and room for its rows, and copies on what each depends.
-    fn plan_begun(
+    fn plan_begun<L: Lineage>(
         &mut self,
         places: &mut Places,
         event: &EventRef<'_>,
-        dependencies: &[(Name, Deps)],
+        lineage: &L,
+        sending: Sending,
         begun: &mut Vec<(usize, Deps)>,
     ) -> Result<(), AllocError>
         ensures more { AreMore places.old places.new }
         ensures kept { IsKept places.new self.old self.new }
         ensures fits { OnOk result (FitsBegun self.new begun.new.items (vec_len begun.new)) }
         ensures placed { OnOk result (HavePlaces places.new begun.new.items) }
-        ensures begun { OnOk result (AreBegun places.new event.now (sent_of dependencies.now)
-            begun.new.items) }
+        ensures begun { OnOk result ((f : ForestState) → L.is_of lineage.now f
+            → AreBegun places.new event.now (sent_by f event.now sending) begun.new.items) }
     {
         let names = event.answer.names_begun();
         begun.clear();
         self.rows.reserve(names.len())?;
         for name in names {
             let at = places.provide(name)?;
-            let depends = depends_in(self.alloc, dependencies, name)?;
+            let depends = self.begun_with(name, lineage, sending)?;
             begun.push((at, depends))?;
         }
         self.at.make_room(places.len())
+    }
+
+    // TODO clauses: on what depends what begins under this name, as far as that comes.
+    fn begun_with<L: Lineage>(
+        &self,
+        name: &Name,
+        lineage: &L,
+        sending: Sending,
+    ) -> Result<Deps, AllocError> {
+        match sending {
+            Sending::OfNew { home, life } => lineage.new_dependencies(name, home, life),
+            Sending::Nothing | Sending::OfKnown => Ok(Deps::new(self.alloc)),
+        }
     }
 
     // Sees to it that the action at the place can count so many things more. Fails where they are too many to be

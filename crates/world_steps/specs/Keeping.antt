@@ -70,7 +70,7 @@ pub record IsBrought (f : ForestState) (a b : GuardianState) (e : Event) (x : Gu
 abbrev pub Brings : ForestState → GuardianState → GuardianState → Event → GuardianState
     → Bool → Message → Type 0
 Brings f a b e x brings message =
-    MatchBool brings (IsBrought f a b e x (carried_of message))
+    MatchBool brings (IsBrought f a b e x (carried_of f e message))
     (names_guardian e.step (events_there f.registry) x.number ≡ false)
 
 -- a guardian that the event names has a plan for it

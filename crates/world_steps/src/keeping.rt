@@ -17,7 +17,7 @@ ghost use Rattle.world_steps.specs.Naming.{AreNamed};
 use crate::lent::Lent;
 use crate::messages::Messages;
 use crate::names::{NamedGuardians, is_named, is_operation, takes_registry};
-use layer_contracts::{Draw, EventRef, Fault, Forest, Guardian, Message};
+use layer_contracts::{Draw, EventRef, Fault, Forest, Guardian, Lineage, Message};
 use run_model::Step;
 use std::alloc::{AllocError, Global};
 
@@ -45,24 +45,25 @@ impl<'a, R: Forest, G: Guardian> Lent<'a, R, G> {
 }
 
 /// Makes room at the guardian for an event that brings this message to it, if it is to keep that.
-fn plan_at<G: Guardian>(
+fn plan_at<L: Lineage, G: Guardian>(
+    lineage: &L,
     guardian: &mut G,
     keeps: bool,
     event: &EventRef<'_>,
-    message: &Message,
+    message: &mut Message,
 ) -> Result<(), AllocError>
     requires accepted { IsTrue (is_accepted event.now.answer) }
     requires rising { OnTrue keeps
-        (IsStrictlySortedBy name_cmp (map (λ x. x.0) message.now.outcomes.items)) }
+        (IsStrictlySortedBy name_cmp (map (λ x. x.0) message.old.outcomes.items)) }
     ensures same { StandsStill (G.stands guardian.old) (G.stands guardian.new) }
     ensures store { Stays (G.stored guardian.old) (G.stored guardian.new) }
     ensures fits { OnOk result (OnTrue keeps (G.fits guardian.new)) }
     ensures planned { OnOk result ((f : ForestState) (a b x : GuardianState)
-        → G.stands guardian.old x → Brings f a b event.now x keeps message.now
+        → L.is_of lineage.now f → G.stands guardian.old x → Brings f a b event.now x keeps message.old
         → Plans (G.is_planned guardian.new) f a b event.now x keeps) }
 {
     if keeps {
-        guardian.plan(event, message)?;
+        guardian.plan(lineage, event, message)?;
     }
     Ok(())
 }
@@ -261,8 +262,14 @@ pub fn keep_two<R: Forest, G: Guardian, D: Draw>(
     let keeps_first = lent.brought_to(named, event, lent.first, &mut messages.to_first)?;
     let keeps_second = lent.brought_to(named, event, lent.second, &mut messages.to_second)?;
     plan_there(forest, event, life)?;
-    plan_at(first, keeps_first, event, &messages.to_first)?;
-    plan_at(second, keeps_second, event, &messages.to_second)?;
+    plan_at(&*forest, first, keeps_first, event, &mut messages.to_first)?;
+    plan_at(
+        &*forest,
+        second,
+        keeps_second,
+        event,
+        &mut messages.to_second,
+    )?;
     if may_fail_at(keeps_first, event, &*first) {
         let number = carry_out(first, keeps_first, event, stamp)?;
         install(second, keeps_second, event, number);
@@ -324,7 +331,7 @@ pub fn keep_one<R: Forest, G: Guardian, D: Draw>(
     let life = lent.life_of_new(named, event);
     let keeps = lent.brought_to(named, event, lent.first, &mut messages.to_first)?;
     plan_there(forest, event, life)?;
-    plan_at(guardian, keeps, event, &messages.to_first)?;
+    plan_at(&*forest, guardian, keeps, event, &mut messages.to_first)?;
     let number = carry_out(guardian, keeps, event, stamp)?;
     install_there(forest, event, number);
     Ok(number)

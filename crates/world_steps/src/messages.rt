@@ -5,15 +5,14 @@ ghost use Rattle.run_model.specs.LocalReadings.{events_here};
 ghost use Rattle.run_model.specs.LocalHistories.{action_lent, aborts_from, carried_lent, counts_of_sender, dependencies_sent, dependency_there, entries_of, events_there, home_lent, life_lent, outcomes_carried, sender_lent, sender_life};
 ghost use Rattle.layer_contracts.specs.Forests.{ForestState, begun_in};
 ghost use Rattle.layer_contracts.specs.Guardians.{GuardianState, lent_two};
-ghost use Rattle.guardian_laws.specs.Sent.{sent_of};
-ghost use Rattle.layer_contracts.specs.Messages.{carried_of};
-ghost use Rattle.world_steps.specs.Lending.{IsOneOf, Lends, begun_lent, dependencies_two, new_from, new_two};
+ghost use Rattle.layer_contracts.specs.Messages.{carried_of, sent_by};
+ghost use Rattle.world_steps.specs.Lending.{IsOneOf, Lends, begun_lent, dependencies_two, new_two};
 ghost use Rattle.world_steps.specs.Naming.{AreNamed};
 
 use crate::lent::Lent;
 use crate::names::{NamedGuardians, home_of_new};
-use action_names::{Deps, Name, Names};
-use layer_contracts::{EventRef, Forest, Guardian, Message};
+use action_names::{Name, Names};
+use layer_contracts::{EventRef, Forest, Guardian, Message, Sending};
 use run_model::Step;
 use std::alloc::{AllocError, Global};
 use step_answers::Reads;
@@ -47,14 +46,14 @@ impl<'a, R: Forest, G: Guardian> Lent<'a, R, G> {
     ) -> Result<(), AllocError>
         requires { AreNamed (R.stands self.now.forest.now) event.now.step named }
         ensures { (f : ForestState) (a b x : GuardianState) → Lends R.stands G.stands self.now f a b
-            → G.stands at.now x → IsOneOf a b x → OnOk result (carried_of message.new
+            → G.stands at.now x → IsOneOf a b x → OnOk result (carried_of f event.now message.new
             ≡ carried_lent f.opening event.now x.number f.registry (lent_two a b)) }
     {
         let sender = self.sender(named, event.step, at.number());
         message.sender = sender;
         message.life = self.life_of(sender);
         self.lists(sender, at, &mut message.aborts, &mut message.counts)?;
-        self.dependencies(named, event, at.number(), &mut message.dependencies)?;
+        message.dependencies = self.dependencies(named, event, at.number());
         self.outcomes(event.step, at, &mut message.outcomes)?;
         Ok(())
     }
@@ -145,92 +144,37 @@ impl<'a, R: Forest, G: Guardian> Lent<'a, R, G> {
         Ok(())
     }
 
-    /// Writes what the event says of dependencies to the guardian of this number, over what was sent before.
-    fn dependencies(
-        &self,
-        named: NamedGuardians,
-        event: &EventRef<'_>,
-        at: u32,
-        sent: &mut Vec<(Name, Deps)>,
-    ) -> Result<(), AllocError>
+    /// Of which actions the event says to the guardian of this number on what they depend.
+    fn dependencies(&self, named: NamedGuardians, event: &EventRef<'_>, at: u32) -> Sending
         requires { AreNamed (R.stands self.now.forest.now) event.now.step named }
         ensures { (f : ForestState) (a b : GuardianState) → Lends R.stands G.stands self.now f a b
-            → OnOk result (sent_of sent.new.items ≡ dependencies_two f a b event.now at) }
+            → sent_by f event.now result ≡ dependencies_two f a b event.now at }
     {
         match event.step {
-            Step::Commit(action) => {
-                if named.second == at {
-                    return self.dependencies_of(action, sent);
-                }
-                sent.clear();
-                Ok(())
-            }
-            Step::Prepare(to, top) => {
-                if *to == at {
-                    return self.dependencies_of(top, sent);
-                }
-                sent.clear();
-                Ok(())
-            }
-            _ => self.new_dependencies(named, event, at, sent),
+            Step::Commit(_) if named.second == at => Sending::OfKnown,
+            Step::Prepare(to, _) if *to == at => Sending::OfKnown,
+            Step::Commit(_) | Step::Prepare(..) => Sending::Nothing,
+            _ => self.new_dependencies(named, event, at),
         }
     }
 
-    fn dependencies_of(&self, action: &Name, sent: &mut Vec<(Name, Deps)>) -> Result<(), AllocError>
-        ensures { (f : ForestState) → R.stands self.now.forest.now f
-            → OnOk result (sent_of sent.new.items ≡ (
-              action.now,
-              entries_of f.opening (λ h. dependency_there action.now h f.registry),
-            ) ∷ []) }
-    {
-        sent.clear();
-        sent.push((action.copy()?, self.forest.dependencies(action)?))?;
-        Ok(())
-    }
-
-    fn new_dependencies(
-        &self,
-        named: NamedGuardians,
-        event: &EventRef<'_>,
-        at: u32,
-        sent: &mut Vec<(Name, Deps)>,
-    ) -> Result<(), AllocError>
+    fn new_dependencies(&self, named: NamedGuardians, event: &EventRef<'_>, at: u32) -> Sending
         requires { AreNamed (R.stands self.now.forest.now) event.now.step named }
         ensures { (f : ForestState) (a b : GuardianState) → Lends R.stands G.stands self.now f a b
-            → OnOk result (sent_of sent.new.items ≡ new_two f a b event.now at) }
+            → sent_by f event.now result ≡ new_two f a b event.now at }
     {
-        sent.clear();
-        let names = event.answer.names_begun();
-        if names.is_empty() {
+        if event.answer.names_begun().is_empty() {
             // Most events begin nothing.
-            return Ok(());
+            return Sending::Nothing;
         }
         let home = home_of_new(named, event.step);
         if home != at {
-            return Ok(());
+            return Sending::Nothing;
         }
-        let life = self.crashes_at(home);
-        self.dependencies_of_new(names, home, life, sent)
-    }
-
-    fn dependencies_of_new(
-        &self,
-        names: &[Name],
-        home: u32,
-        life: u64,
-        sent: &mut Vec<(Name, Deps)>,
-    ) -> Result<(), AllocError>
-        ensures { (f : ForestState) → R.stands self.now.forest.now f
-            → OnOk result (sent_of sent.new.items ≡ new_from f home life names.now) }
-    {
-        sent.clear();
-        for name in names {
-            sent.push((
-                name.copy()?,
-                self.forest.new_dependencies(name, home, life)?,
-            ))?;
+        Sending::OfNew {
+            home,
+            life: self.crashes_at(home),
         }
-        Ok(())
     }
 
     /// Writes what outcomes the step brings, over those that were brought before.
