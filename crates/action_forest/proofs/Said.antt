@@ -4,6 +4,7 @@ use Rattle.std.specs.Prelude.{slice_get}
 use Rattle.std.specs.Option.{option_and_then}
 use Rattle.std.specs.Cmp.{unsigned_tied}
 use Rattle.std.specs.FinMap as tree
+use Rattle.std.specs.Ordering.{nat_cmp}
 use Rattle.std.proofs.lemmas.Bool.{cases_eq, eq-eqb, ne_eqb}
 use Rattle.std.proofs.lemmas.Cmp.{nat_cmp_total}
 use Rattle.action_names.specs.Deps.{Deps, lesser, lowered}
@@ -16,7 +17,7 @@ use Rattle.action_forest.proofs.Entries.{entries_are}
 use Rattle.action_forest.proofs.Found.{there}
 use Rattle.action_forest.specs.Events.{first_entries}
 use Rattle.action_forest.specs.Forests.{IsForest, IsTree}
-use Rattle.action_forest.specs.Trees.{Trees, action_of, depends_at, place_of}
+use Rattle.action_forest.specs.Trees.{Trees, action_of, depends_at, place_of, said}
 
 -- an action is there just where it was begun
 pub there_if_begun : (registry : List RegistryEvent) (forest : Trees) → IsTree registry forest → (a : Name)
@@ -35,6 +36,14 @@ pub entries_read : (opening : Opening) (registry : List RegistryEvent) (forest :
 entries_read opening registry forest h a deps same =
     entries_are opening (λ g. dependency_there a g registry) deps (λ g low high. same g ∙ h.depends a g)
     (λ g some. h.inside a g (ap is_some (sym (same g ∙ h.depends a g)) ∙ some))
+
+-- and no entries where no action is
+pub entries_nowhere : (opening : Opening) (registry : List RegistryEvent) (forest : Trees) → IsForest opening registry forest → (a : Name)
+    → action_of forest a ≡ None → entries_of opening (λ g. dependency_there a g registry) ≡ []
+entries_nowhere opening registry forest h a none =
+    sym (entries_read opening registry forest h a (tree.from_sorted [])
+    (λ g. tree.get-from_sorted nat_cmp [] g tt ∙ sym (ap (said (λ action. tree.get action.depends g) None) none)))
+    ∙ tree.entries-from_sorted nat_cmp [] tt
 
 -- what an action begins with of what its parent had
 inherited_read : (opening : Opening) (registry : List RegistryEvent) (forest : Trees) → IsForest opening registry forest → (b : Name) (g : ℕ)
