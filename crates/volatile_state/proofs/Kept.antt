@@ -19,6 +19,7 @@ use Rattle.run_model.specs.Visibility.{votes_yes}
 use Rattle.guardian_laws.specs.Crashes.{LeavesSafe}
 use Rattle.layer_contracts.specs.Guardians.{GuardianState, IsNext, News, by_itself, stamped}
 use Rattle.layer_contracts.specs.Messages.{is_operation}
+use Rattle.layer_contracts.specs.declared.message.Message.{Message}
 use Rattle.object_laws.specs.OnceTold.{HoldsItsTree}
 use Rattle.tellings.specs.Hearing.{AreTold, IsHeard}
 use Rattle.tellings.specs.Hearing as hearing
@@ -34,7 +35,7 @@ use Rattle.guardian_objects.specs.Objects.{AreObjects, Indexed, Operates}
 use Rattle.guardian_objects.specs.Objects as indexed
 use Rattle.guardian_objects.specs.Outcomes.{ArePlanned, IsHearing, OnlyTells, outcomes_of}
 use Rattle.volatile_state.specs.Memories.{InMemory, IsOfSome, IsSound}
-use Rattle.volatile_state.specs.Plans.{AreRecorded, FitsPlan, Follows, FollowsWhere, IsPlanOf, IsPlanned, IsPlannedWhere, Operated}
+use Rattle.volatile_state.specs.Plans.{AreRecorded, FitsMessage, FitsPlan, Follows, FollowsWhere, HasMessage, IsPlanOf, IsPlanned, IsPlannedWhere, Operated}
 use Rattle.volatile_state.specs.declared.plan.Plan.{Plan}
 use Rattle.volatile_state.proofs.Agreed.{actions_at, crash_brings, crash_is, may_tell, only_tells, operation_brings, vote_only_tells}
 use Rattle.volatile_state.proofs.Held.{holds_tree, no_parts, vote_brings}
@@ -46,6 +47,14 @@ use Rattle.volatile_state.proofs.Untouched.{after_operation}
 
 pub fits_within : {m old : InMemory} {p : Plan} → m ≡ old → FitsPlan p old → FitsPlan p m
 fits_within {m} {old} {p} is fits = subst (λ k. FitsPlan p k) (sym is) fits
+
+pub room_within : {m old : InMemory} {p : Plan} → m ≡ old → FitsMessage p old → FitsMessage p m
+room_within {m} {old} {p} is fits = subst (λ k. FitsMessage p k) (sym is) fits
+
+pub message_within : {m old : InMemory} {p : Plan} {g : GuardianState} {message : Message} {outcomes others : List (Name × Bool)} → m ≡ old → outcomes ≡ others
+    → HasMessage p old g message outcomes → HasMessage p m g message others
+message_within {m} {old} {p} {g} {message} {outcomes} {others} is same has =
+    subst (λ k. HasMessage p k g message others) (sym is) (subst (λ l. HasMessage p old g message l) same has)
 
 pub planned_within : {m old : InMemory} {p : Plan} {e : Event} → m ≡ old → IsPlanned p old e → IsPlanned p m e
 planned_within {m} {old} {p} {e} is planned = subst (λ k. IsPlanned p k e) (sym is) planned

@@ -1,8 +1,9 @@
 -- What events a plan is for, and when the memory has room for it.
-use Rattle.std.specs.Prelude.{◌≡◌, ◌+◌, ◌<◌, ◌^◌, ℕ, Bool, is_some}
+use Rattle.std.specs.Prelude.{◌≡◌, ◌+◌, ◌<◌, ◌^◌, ℕ, Bool, List, is_some}
 use Rattle.action_names.specs.Names.{Name}
 use Rattle.run_model.specs.declared.history.Event.{Event}
 use Rattle.run_model.specs.LocalReadings.{prepared_here}
+use Rattle.layer_contracts.specs.declared.message.Message.{Message}
 use Rattle.layer_contracts.specs.Guardians.{GuardianState, IsNext, News, by_itself, kept, stamped}
 use Rattle.tellings.specs.Hearing.{FitsHeard, IsHeard}
 use Rattle.orphans.specs.Knowing.{FitsLesson, IsLesson}
@@ -24,6 +25,24 @@ pub record FitsPlan (p : Plan) (m : InMemory) : Type 0 where
   pub lesson : FitsLesson m.lists p.lesson
   pub entry : FitsEntry m.roster p.entry
   pub planned : Fits m.objects p.planned.tellings.items
+
+-- There is room for what a message brings beside dependencies, and one more crash can be counted.
+pub record FitsMessage (p : Plan) (m : InMemory) : Type 0 where
+  pub count : crashes_of m.roster + 1 < 2 ^ 64
+  pub heard : FitsHeard m.told p.heard
+  pub lesson : FitsLesson m.lists p.lesson
+  pub planned : Fits m.objects p.planned.tellings.items
+
+-- The copies are of what the message brings beside dependencies, with these outcomes in place of its own.
+pub record HasMessage (p : Plan) (m : InMemory) (g : GuardianState) (message : Message)
+    (outcomes : List (Name × Bool)) : Type 0 where
+  pub sender : p.sender ≡ message.sender
+  pub brought : p.outcomes.items ≡ outcomes
+  pub heard : IsHeard m.places m.told outcomes p.heard
+  pub lesson : IsLesson message.sender message.life message.aborts message.counts.items outcomes
+      p.lesson
+  pub outcomes : outcomes_of p.planned.tellings.items ≡ outcomes
+  pub planned : ArePlanned g.past p.planned.tellings.items
 
 -- The news may come next, and the copies are of it.
 pub record IsPlanOf (p : Plan) (m : InMemory) (g : GuardianState) (news : News) : Type 0 where

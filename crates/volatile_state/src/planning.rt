@@ -1,6 +1,7 @@
 //! Making room for an event.
-ghost use Rattle.std.specs.Prelude.{◌≡◌, ◌+◌, ◌<◌, ◌^◌, ℕ, List, OnOk, IsTrue};
+ghost use Rattle.std.specs.Prelude.{◌≡◌, [], OnOk, IsTrue};
 ghost use Rattle.atomic_object.specs.Staying.{OutcomesRise};
+ghost use Rattle.run_model.specs.Actions.{names_begun};
 ghost use Rattle.run_model.specs.Runs.{is_accepted};
 ghost use Rattle.local_laws.specs.Owed.{IsOwed};
 ghost use Rattle.guardian_laws.specs.Laws.{Agrees};
@@ -8,13 +9,12 @@ ghost use Rattle.layer_contracts.specs.Forests.{ForestState};
 ghost use Rattle.layer_contracts.specs.Guardians.{GuardianState, IsNext, by_itself};
 ghost use Rattle.layer_contracts.specs.Messages.{is_turn, local_event, news_in};
 ghost use Rattle.volatile_state.specs.Memories.{IsSound};
-ghost use Rattle.volatile_state.specs.Plans.{FitsPlan, IsPlanOf};
+ghost use Rattle.volatile_state.specs.Plans.{FitsMessage, FitsPlan, HasMessage, IsPlanOf};
 
 use crate::memory::Memory;
 use crate::plan::Plan;
-use layer_contracts::{EventRef, Lineage, Message, Sending};
+use layer_contracts::{EventRef, Lineage, Message};
 use orphans::News;
-use run_model::Names;
 use std::alloc::AllocError;
 use std::mem;
 
@@ -48,9 +48,10 @@ impl Memory {
             .plan(&mut self.places, event, lineage, sending, &mut plan.entry)
     }
 
-    /// The same for a crash or a recovery, with which no message comes.
+    /// The same for a crash or a recovery, which begins nothing, and with which no message comes.
     pub fn plan_turn(&mut self, event: &EventRef<'_>, plan: &mut Plan) -> Result<(), AllocError>
         requires turn { IsTrue (is_turn event.now.step) }
+        requires begins { names_begun event.now.answer ≡ [] }
         requires accepted { IsTrue (is_accepted event.now.answer) }
         ensures same { (s : GuardianState) → IsSound self.old s → IsSound self.new s }
         ensures fits { OnOk result (FitsPlan plan.new self.new) }
@@ -59,13 +60,20 @@ impl Memory {
             → IsPlanOf plan.new self.new s (by_itself event.now)) }
     {
         plan.outcomes.clear();
-        self.plan_message(&Message::empty(self.alloc), plan)?;
+        let nothing = Message::empty(self.alloc);
+        self.plan_message(&nothing, plan)?;
         self.roster.plan_turn(event, &mut plan.entry);
         Ok(())
     }
 
-    // TODO clauses: plans what a message brings, but for dependencies; the outcomes stand in the plan.
-    fn plan_message(&mut self, message: &Message, plan: &mut Plan) -> Result<(), AllocError> {
+    // Plans what the message brings beside dependencies. Its outcomes stand in the plan already.
+    fn plan_message(&mut self, message: &Message, plan: &mut Plan) -> Result<(), AllocError>
+        requires { OutcomesRise plan.old.outcomes.items }
+        ensures same { (s : GuardianState) → IsSound self.old s → IsSound self.new s }
+        ensures fits { OnOk result (FitsMessage plan.new self.new) }
+        ensures planned { OnOk result ((s : GuardianState) → IsSound self.old s
+            → HasMessage plan.new self.new s message.now plan.old.outcomes.items) }
+    {
         if self.roster.crashes() == u64::MAX {
             return Err(AllocError);
         }

@@ -1,89 +1,45 @@
-use Rattle.std.proofs.Common.{arith, refl, subst, sym, ◌∙◌, ◌≡◌}
-use Rattle.tellings.specs.Hearing.{IsHeard}
-use Rattle.orphans.specs.Knowing.{IsLesson}
-use Rattle.guardian_laws.specs.Sent.{sent_of}
-use Rattle.roster.specs.Entries.{IsEntry}
-use Rattle.roster.specs.Tables.{table}
+use Rattle.std.proofs.Common.{ap, arith, refl, subst, sym, ◌∙◌, ◌≡◌}
+use Rattle.std.proofs.lemmas.Result.{on_ok_weaker}
+use Rattle.layer_contracts.specs.Messages.{local_event}
 use Rattle.atomic_object.specs.Staying.{OutcomesRise}
-use Rattle.volatile_state.proofs.Sound.{inside, more_heard, more_roster, more_told, sound_same}
+use Rattle.volatile_state.proofs.Kept.{message_within, room_within}
+use Rattle.volatile_state.proofs.Sound.{inside, more_heard, more_told, sound_same}
 use Rattle.volatile_state.proofs.memory.Memory.plan.Goals as goal
 
-pub plan-requires-clause-shown : goal.plan-requires-clause-shown
-plan-requires-clause-shown c = (c.self.invariant.0.opening, c.self.invariant.0.past, c.self.invariant.1.shown)
-
-pub plan-requires-clause-rising : goal.plan-requires-clause-rising
-plan-requires-clause-rising c = subst (λ l. OutcomesRise l) (sym c.as_slice-outcomes.ensures.value) c.requires.rising
+pub plan_message-requires : goal.plan_message-requires
+plan_message-requires g c = subst (λ l. OutcomesRise l) (sym (ap (λ outcomes. outcomes.items) c.swap.ensures.x_after)) c.requires.rising
 
 pub invariant_of-self : goal.invariant_of-self
-invariant_of-self c = (_, sound_same (λ h here k. k) refl (λ here k. k) refl (λ h here k. k) c.plan.ensures.same c.plan.ensures.guardian c.self.invariant.1)
-
-pub returns-in_err-plan-clause-same : goal.returns-in_err-plan-clause-same
-returns-in_err-plan-clause-same c = λ s at. sound_same (λ h here k. k) refl (λ here k. k) refl (λ h here k. k) c.plan.ensures.same c.plan.ensures.guardian (inside c.self.view_is at)
-
-pub invariant_of-self-in_err-plan-2 : goal.invariant_of-self-in_err-plan-2
-invariant_of-self-in_err-plan-2 c = (_, sound_same c.plan-2.ensures.same c.plan-2.ensures.crashes (λ here k. k) refl (more_roster c.self.inside.roster c.plan-2.ensures.more) c.plan.ensures.same c.plan.ensures.guardian c.self.invariant.1)
-
-pub returns-in_err-plan-2-clause-same : goal.returns-in_err-plan-2-clause-same
-returns-in_err-plan-2-clause-same c = λ s at. sound_same c.plan-2.ensures.same c.plan-2.ensures.crashes (λ here k. k) refl (more_roster c.self.inside.roster c.plan-2.ensures.more) c.plan.ensures.same c.plan.ensures.guardian (inside c.self.view_is at)
-
-pub invariant_of-self-in_err-plan_lesson : goal.invariant_of-self-in_err-plan_lesson
-invariant_of-self-in_err-plan_lesson c = (_, sound_same c.plan-2.ensures.same c.plan-2.ensures.crashes c.plan_lesson.ensures.same c.plan_lesson.ensures.own (more_roster c.self.inside.roster c.plan-2.ensures.more) c.plan.ensures.same c.plan.ensures.guardian c.self.invariant.1)
-
-pub returns-in_err-plan_lesson-clause-same : goal.returns-in_err-plan_lesson-clause-same
-returns-in_err-plan_lesson-clause-same c = λ s at. sound_same c.plan-2.ensures.same c.plan-2.ensures.crashes c.plan_lesson.ensures.same c.plan_lesson.ensures.own (more_roster c.self.inside.roster c.plan-2.ensures.more) c.plan.ensures.same c.plan.ensures.guardian (inside c.self.view_is at)
-
-pub invariant_of-self-in_err-plan-3 : goal.invariant_of-self-in_err-plan-3
-invariant_of-self-in_err-plan-3 c = (
-  _,
-  sound_same (λ h here k. more_told c.plan-2.new.self c.plan-3.ensures.more h here (c.plan-2.ensures.same h here k)) c.plan-2.ensures.crashes c.plan_lesson.ensures.same c.plan_lesson.ensures.own
-      (λ h here k. c.plan-3.ensures.same h here (more_roster c.self.inside.roster c.plan-2.ensures.more h here k)) c.plan.ensures.same c.plan.ensures.guardian c.self.invariant.1,
-)
-
-pub returns-in_err-plan-3-clause-same : goal.returns-in_err-plan-3-clause-same
-returns-in_err-plan-3-clause-same c = λ s at. sound_same (λ h here k. more_told c.plan-2.new.self c.plan-3.ensures.more h here (c.plan-2.ensures.same h here k)) c.plan-2.ensures.crashes c.plan_lesson.ensures.same c.plan_lesson.ensures.own
-    (λ h here k. c.plan-3.ensures.same h here (more_roster c.self.inside.roster c.plan-2.ensures.more h here k)) c.plan.ensures.same c.plan.ensures.guardian (inside c.self.view_is at)
-
-pub invariant_of-self-2 : goal.invariant_of-self-2
-invariant_of-self-2 c = (
-  _,
-  sound_same (λ h here k. more_told c.plan-2.new.self c.plan-3.ensures.more h here (c.plan-2.ensures.same h here k)) c.plan-2.ensures.crashes c.plan_lesson.ensures.same c.plan_lesson.ensures.own
-      (λ h here k. c.plan-3.ensures.same h here (more_roster c.self.inside.roster c.plan-2.ensures.more h here k)) c.plan.ensures.same c.plan.ensures.guardian c.self.invariant.1,
-)
+invariant_of-self g c =
+    (_, sound_same (λ h here k. more_told c.self.inside.told c.plan.ensures.more h here k) refl (λ here k. k) refl c.plan.ensures.same (λ opening here k. k) refl c.self.invariant.1)
 
 pub returns-clause-same : goal.returns-clause-same
-returns-clause-same c = λ s at. sound_same (λ h here k. more_told c.plan-2.new.self c.plan-3.ensures.more h here (c.plan-2.ensures.same h here k)) c.plan-2.ensures.crashes c.plan_lesson.ensures.same c.plan_lesson.ensures.own
-    (λ h here k. c.plan-3.ensures.same h here (more_roster c.self.inside.roster c.plan-2.ensures.more h here k)) c.plan.ensures.same c.plan.ensures.guardian (inside c.self.view_is at)
+returns-clause-same g c = λ s at.
+    sound_same (λ h here k. more_told c.self.inside.told c.plan.ensures.more h here k) refl (λ here k. k) refl c.plan.ensures.same (λ opening here k. k) refl
+    (inside c.self.view_is (c.plan_message.ensures.same s at))
 
 pub returns-clause-fits : goal.returns-clause-fits
-returns-clause-fits c =
-    let own = c.self.invariant.1.actions in
-    let is : c.crashes.result ≡ c.self.inside.roster.crashes =
-    c.crashes.ensures c.self.invariant.0.number c.self.invariant.0.past c.self.inside.places own ∙ sym own.crashes in
-    record {
-      count = omega (arith, c.if-crashes.false, is, c.plan-3.ensures.crashes, c.crashes.type_inv);
-      heard = c.in_ok-plan-2.ensures.fits;
-      lesson = c.in_ok-plan_lesson.ensures.fits;
-      entry = c.in_ok-plan-3.ensures.fits;
-      planned = c.in_ok-plan.ensures.fits;
-    }
+returns-clause-fits g c =
+    let there = room_within c.self.view_is c.in_ok-plan_message.ensures.fits in
+    on_ok_weaker c.plan.result (λ entry. record {
+      count = omega (arith, there.count, c.plan.ensures.crashes);
+      heard = there.heard;
+      lesson = there.lesson;
+      entry = entry;
+      planned = there.planned;
+    }) c.plan.ensures.fits
 
 pub returns-clause-planned : goal.returns-clause-planned
-returns-clause-planned c = λ s at owed agrees.
-    let here = inside c.self.view_is at in
+returns-clause-planned g c =
+    on_ok_weaker c.plan.result (λ made s f at of owed agrees.
+    let has = message_within c.self.view_is (ap (λ outcomes. outcomes.items) c.swap.ensures.x_after) (c.in_ok-plan_message.ensures.planned s at) in
     record {
       next = record { accepted = c.requires.accepted; owed = owed; agrees = agrees };
-      sender = refl;
-      brought = c.in_ok-fill_outcomes.ensures ∙ c.as_slice-outcomes.ensures.value;
-      heard = more_heard c.plan-2.new.self c.args.message.now.outcomes.items c.plan-2.new.heard c.plan-3.ensures.more
-          (subst (λ l. IsHeard c.plan-2.new.places c.plan-2.new.self l c.plan-2.new.heard) c.as_slice-outcomes.ensures.value c.in_ok-plan-2.ensures.heard);
-      lesson =
-          subst (λ l. IsLesson c.args.message.now.sender c.args.message.now.life c.args.message.now.aborts l c.args.message.now.outcomes.items c.plan_lesson.new.lesson)
-          c.as_slice-counts.ensures.value
-          (subst (λ l. IsLesson c.args.message.now.sender c.args.message.now.life c.args.message.now.aborts c.as_slice-counts.result.now l c.plan_lesson.new.lesson)
-          c.as_slice-outcomes.ensures.value c.in_ok-plan_lesson.ensures.news);
-      entry =
-          subst (λ l. IsEntry (table c.plan-3.new.places c.plan-3.new.self) c.args.event.now (sent_of l) c.plan-3.new.entry)
-          c.as_slice-dependencies.ensures.value c.in_ok-plan-3.ensures.planned;
-      outcomes = c.in_ok-plan.ensures.outcomes ∙ c.as_slice-outcomes.ensures.value;
-      planned = c.in_ok-plan.ensures.planned s.number s.past here.tellings;
-    }
+      sender = has.sender;
+      brought = has.brought;
+      heard = more_heard c.self.inside.told c.args.message.now.outcomes.items c.plan_message.new.plan.heard c.plan.ensures.more has.heard;
+      lesson = has.lesson;
+      entry = made f s.number (local_event f c.args.event.now c.args.message.now) s.past of refl agrees.actions;
+      outcomes = has.outcomes;
+      planned = has.planned;
+    }) c.plan.ensures.planned
