@@ -13,7 +13,7 @@ pub returns-in-Some : goal.returns-in-Some
 returns-in-Some c = λ registry are.
     let top = c.args.top.now in
     let same : (g : ℕ) → map.get c.in-Some.participants.now g ≡ dependency_there top g registry = λ g.
-    c.in-Some.ensures _ registry are.forest g ∙ ap (λ a. dependency_there a g registry) c.components.ensures.numbers in
+    c.in-Some.ensures.least _ registry are.forest g ∙ ap (λ a. dependency_there a g registry) c.components.ensures.numbers in
     c.may_commit.ensures (events_there registry) are.ballots
     ∙ (λ i. list_all (λ g. is_none (same g i) || has_prepared g top (events_there registry)) (guardians_of (opening_in c.args.opening.now)))
 
@@ -21,6 +21,6 @@ pub returns-in-None : goal.returns-in-None
 returns-in-None c = λ registry are.
     let top = c.args.top.now in
     let none : (g : ℕ) → None ≡ dependency_there top g registry = λ g.
-    c.in-None.ensures _ registry are.forest g ∙ ap (λ a. dependency_there a g registry) c.components.ensures.numbers in
+    c.in-None.ensures.least _ registry are.forest g ∙ ap (λ a. dependency_there a g registry) c.components.ensures.numbers in
     sym (all_guardians (is_ready_there top registry) (length c.args.opening.now.setup)
     (λ g low high. ap (λ o. is_none o || has_prepared g top (events_there registry)) (sym (none g))))
