@@ -10,12 +10,15 @@ use Rattle.run_model.specs.declared.answer.Answer.TheVariants.{Done}
 use Rattle.run_model.specs.declared.history.Event.{Event}
 use Rattle.run_model.specs.declared.step.Step.{Step}
 use Rattle.run_model.specs.declared.step.Step.TheVariants.{Abort, Arms, Call, Close, Commit, Crash, Decide, NestedTop, Op, Prepare, Recover, Tell, Top}
-use Rattle.run_model.specs.Actions.{home_of, is_begun}
+use Rattle.run_model.specs.Actions.{home_of, is_begun, names_begun}
+use Rattle.run_model.specs.Answers as answers
 use Rattle.run_model.specs.Answers.{answer_of}
+use Rattle.run_model.specs.Keeping.{blockers}
 use Rattle.run_model.specs.LocalHistories.{Stamped, answer_lent, carried_lent, events_of, events_there, local_history, names_guardian, numbered, registry_history, takes_registry}
 use Rattle.run_model.specs.LocalReadings.{LocalEvent, events_here, nothing_carried}
 use Rattle.run_model.specs.Openings.{Opening}
 use Rattle.run_model.specs.Runs.{IsRun}
+use Rattle.run_laws.proofs.Accepted as accepting
 use Rattle.run_laws.proofs.Names.{eqb_self}
 use Rattle.local_laws.proofs.Actions.{action_same}
 use Rattle.local_laws.proofs.Lending.{lent_answers}
@@ -23,7 +26,7 @@ use Rattle.local_laws.proofs.Operations.{operations_same}
 use Rattle.local_laws.proofs.Roster.{begun_same}
 use Rattle.stable_store.specs.Calls.{View}
 use Rattle.layer_contracts.specs.Guardians.{GuardianState, IsNext, after_step, by_itself, kept, lent_two, stamped}
-use Rattle.layer_contracts.specs.Messages.{is_operation}
+use Rattle.layer_contracts.specs.Messages.{is_operation, is_turn}
 use Rattle.layer_contracts.specs.Stores.{Leaves, LeavesStore}
 use Rattle.layer_contracts.specs.declared.guardian.Fault.{Fault}
 use Rattle.world_steps.specs.Keeping.{IsAnswered, StoreLeft}
@@ -163,6 +166,36 @@ own_takes g (Prepare m a) past h = absurd (false≢true h)
 own_takes g (Decide a) past h = absurd (false≢true h)
 own_takes g (Abort a) past h = absurd (false≢true h)
 own_takes g (Tell m a) past h = absurd (false≢true h)
+
+-- it is an operation, or a crash or a recovery
+pub own_kind : (g : ℕ) (step : Step) (past : List Event) → is_own g step past ≡ true → (is_operation step || is_turn step) ≡ true
+own_kind g (Op a x wanted) past h = refl
+own_kind g (Crash m) past h = refl
+own_kind g (Recover m) past h = refl
+own_kind g (Top m) past h = absurd (false≢true h)
+own_kind g (NestedTop a) past h = absurd (false≢true h)
+own_kind g (Call a m) past h = absurd (false≢true h)
+own_kind g (Arms a kinds) past h = absurd (false≢true h)
+own_kind g (Commit a) past h = absurd (false≢true h)
+own_kind g (Close a) past h = absurd (false≢true h)
+own_kind g (Prepare m a) past h = absurd (false≢true h)
+own_kind g (Decide a) past h = absurd (false≢true h)
+own_kind g (Abort a) past h = absurd (false≢true h)
+own_kind g (Tell m a) past h = absurd (false≢true h)
+
+-- which begins nothing
+pub own_begins : (opening : Opening) (e : Event) (past : List Event) → IsRun opening (e ∷ past) → (is_operation e.step || is_turn e.step) ≡ true → names_begun e.answer ≡ []
+own_begins opening e past r own = ap (λ x. names_begun x) (accepting.answered opening e past r) ∙ of e.step own
+  where
+    of : (step : Step) → (is_operation step || is_turn step) ≡ true → names_begun (answers.outcome opening step past) ≡ []
+    of (Op a x wanted) h = none (blockers a x wanted past)
+      where
+        none : (bs : List Name) → names_begun (answers.granted_or_waits opening x wanted past bs) ≡ []
+        none [] = refl
+        none (b ∷ bs) = refl
+    of (Crash g) h = refl
+    of (Recover g) h = refl
+    of _ h = absurd (false≢true h)
 
 -- ---- it stays the guardian's own, with the same answer, while nothing touches the guardian
 

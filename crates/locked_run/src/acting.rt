@@ -131,7 +131,6 @@ pub fn act_one<K: OfRun, R: Forest, G: Guardian>(
 /// there, its own crash, or its own recovery. As `act_two`. `None` if the step is another, or if the
 /// guardian has no stamps left.
 pub fn act_guardian<K: OfRun, G: Guardian>(
-    alloc: Global,
     shared: &Shared<K>,
     held: &mut Held<K, G>,
     step: &Step,
@@ -152,7 +151,6 @@ pub fn act_guardian<K: OfRun, G: Guardian>(
     let number = held.guardian.number();
     let part = look_alone(shared, &mut held.part);
     let (part, done) = step_own(
-        alloc,
         shared,
         &mut held.guardian,
         number,

@@ -1,11 +1,12 @@
 //! What a guardian does by itself: operations of actions at home there, its own crash and recovery.
-ghost use Rattle.std.specs.Prelude.{◌≡◌, ◌==◌, ◌<◌, [], false, true, IfOk, IsErrOf, IsTrue, MatchOption, OnErr};
+ghost use Rattle.std.specs.Prelude.{◌≡◌, ◌==◌, ◌||◌, ◌<◌, [], false, true, IfOk, IsErrOf, IsTrue, MatchOption, OnErr};
 ghost use Rattle.one_run.specs.Pieces.{first_left, seen_of};
 ghost use Rattle.one_run.specs.Rules.{Adds, others_of};
+ghost use Rattle.run_model.specs.Actions.{names_begun};
 ghost use Rattle.run_model.specs.Answers.{answer_of};
 ghost use Rattle.run_model.specs.Runs.{IsRun, is_accepted};
 ghost use Rattle.layer_contracts.specs.Guardians.{GuardianState, IsNext, by_itself, kept, stamped};
-ghost use Rattle.layer_contracts.specs.Messages.{is_operation};
+ghost use Rattle.layer_contracts.specs.Messages.{is_operation, is_turn};
 ghost use Rattle.layer_contracts.specs.Stores.{CountsFailure, LeavesStore, fault_in};
 ghost use Rattle.layer_contracts.specs.declared.guardian.Fault.TheVariants.{Stable};
 ghost use Rattle.world_steps.specs.Keeping.{StandsStill};
@@ -22,7 +23,7 @@ use crate::stored::StoredHistory;
 use layer_contracts::{Draw, EventRef, Fault, Guardian};
 use one_run::Part;
 use run_model::{Answer, Event, Refusal, Step};
-use std::alloc::{AllocError, Global};
+use std::alloc::AllocError;
 use std::marker::{Brand, PhantomData};
 use world_steps::answer_here;
 
@@ -77,13 +78,14 @@ fn is_operation(step: &Step) -> bool
 
 /// Keeps an event that comes without a message. After an error the guardian stands where it stood.
 fn keep_by_itself<G: Guardian, D: Draw>(
-    alloc: Global,
     guardian: &mut G,
     event: &EventRef<'_>,
     stamp: &mut D,
 ) -> Result<u64, Fault>
     requires stamp { D.may_draw stamp.old }
     requires next { (s : GuardianState) × G.stands guardian.old s × IsNext s (by_itself event.now) }
+    requires own { IsTrue (is_operation event.now.step || is_turn event.now.step) }
+    requires begins { names_begun event.now.answer ≡ [] }
     ensures drawn { IfOk result (λ n. D.draws stamp.old n stamp.new) }
     ensures undrawn { OnErr result (stamp.new ≡ stamp.old) }
     ensures kept { IfOk result (λ n. (s : GuardianState) → G.stands guardian.old s
@@ -108,7 +110,6 @@ fn keep_by_itself<G: Guardian, D: Draw>(
 /// Keeps an event of a guardian by itself, which has this number, and adds it to the run. After an error
 /// it stands where it stood, and nothing was added.
 fn keep_own<K: OfRun, T: Deed, G: Guardian>(
-    alloc: Global,
     shared: &Shared<K>,
     guardian: &mut G,
     number: u32,
@@ -141,7 +142,7 @@ fn keep_own<K: OfRun, T: Deed, G: Guardian>(
         part,
         of: PhantomData,
     };
-    let kept = keep_by_itself(alloc, guardian, event, &mut drawing);
+    let kept = keep_by_itself(guardian, event, &mut drawing);
     let Drawing {
         shared: _,
         part,
@@ -156,7 +157,6 @@ fn keep_own<K: OfRun, T: Deed, G: Guardian>(
 /// A step of a guardian by itself, which has this number. `None`, and nothing is changed, if it needs more
 /// than the guardian.
 pub(crate) fn step_own<K: OfRun, G: Guardian>(
-    alloc: Global,
     shared: &Shared<K>,
     guardian: &mut G,
     number: u32,
@@ -185,15 +185,12 @@ pub(crate) fn step_own<K: OfRun, G: Guardian>(
     match answer_own(&*guardian, number, step) {
         Err(_refused) => (part, Err(Fault::Memory)),
         Ok(None) => (part, Ok(None)),
-        Ok(Some(answer)) => finish_own(
-            alloc, shared, guardian, number, history, part, step, answer,
-        ),
+        Ok(Some(answer)) => finish_own(shared, guardian, number, history, part, step, answer),
     }
 }
 
 /// Keeps the step if it was accepted.
 fn finish_own<K: OfRun, G: Guardian>(
-    alloc: Global,
     shared: &Shared<K>,
     guardian: &mut G,
     number: u32,
@@ -232,7 +229,7 @@ fn finish_own<K: OfRun, G: Guardian>(
     if history.push(&event, 0).is_err() {
         return (part, Err(Fault::Memory));
     }
-    let (part, kept) = keep_own::<K, Brand, G>(alloc, shared, guardian, number, part, &event);
+    let (part, kept) = keep_own::<K, Brand, G>(shared, guardian, number, part, &event);
     history.settle(&kept);
     match kept {
         Err(fault) => (part, Err(fault)),

@@ -57,7 +57,6 @@ pub(crate) fn one_behind<K: OfRun, R: Forest, G: Guardian>(
 
 /// One step that a guardian makes by itself, behind what was seen if anything was.
 pub(crate) fn guardian_behind<K: OfRun, G: Guardian>(
-    alloc: Global,
     shared: &Shared<K>,
     held: &mut Held<K, G>,
     earlier: &mut Option<Seen<K>>,
@@ -68,7 +67,7 @@ pub(crate) fn guardian_behind<K: OfRun, G: Guardian>(
     ensures same { earlier.new ≡ earlier.old }
 {
     learn(shared, held, earlier);
-    let Some(given) = act_guardian(alloc, shared, held, step)? else {
+    let Some(given) = act_guardian(shared, held, step)? else {
         return Ok(None);
     };
     let seen = held.seen(shared);

@@ -338,7 +338,7 @@ impl<K: OfRun, R: Forest, G: Guardian, P: Gate> Runtime<K, R, G, P> {
         };
         let mut held = place.lock(rt);
         self.gate.pass(number, action_of(step));
-        let done = guardian_behind(self.alloc, &self.shared, &mut held, earlier, step)?;
+        let done = guardian_behind(&self.shared, &mut held, earlier, step)?;
         if is_accepted(&done) {
             place.wake();
         }
@@ -490,7 +490,7 @@ impl<K: OfRun, R: Forest, G: Guardian, P: Gate> Runtime<K, R, G, P> {
         };
         let mut held = place.lock(rt);
         self.gate.pass(number, action_of(step));
-        let done = guardian_behind(self.alloc, &self.shared, &mut held, earlier, step)?;
+        let done = guardian_behind(&self.shared, &mut held, earlier, step)?;
         let Some(answered) = done else {
             drop(held);
             return self.unless_waiting(rt, earlier, step, starters, patience);

@@ -1,8 +1,5 @@
 -- What is said of new actions.
-use Rattle.std.proofs.Common.{suc, arith, append_assoc, drop, get_or, length, ◌++◌, ◌+◌, ◌<◌, Bool, List, [], ap, ap₂, false, filter, map, refl, sym, true, ℕ, ◌==◌, ◌∙◌, ◌∷◌, ◌≡◌}
-use Rattle.std.specs.FinMap as tree
-use Rattle.std.proofs.Math.Seq.{drop-cons}
-use Rattle.action_names.specs.Deps.{Deps}
+use Rattle.std.proofs.Common.{Bool, List, [], ap, ap₂, false, filter, map, refl, sym, true, ℕ, ◌==◌, ◌∙◌, ◌∷◌, ◌≡◌}
 use Rattle.action_names.specs.Names.{Name}
 use Rattle.run_model.specs.declared.history.Event.{Event}
 use Rattle.run_model.specs.Actions.{crashes, names_begun}
@@ -10,8 +7,7 @@ use Rattle.run_model.specs.LocalHistories.{NewAction, action_lent, home_lent, li
 use Rattle.run_model.specs.LocalReadings.{events_here}
 use Rattle.layer_contracts.specs.Guardians.{GuardianState, lent_two}
 use Rattle.layer_contracts.specs.Forests.{ForestState, begun_in, new_entries}
-use Rattle.guardian_laws.specs.Sent.{sent_of}
-use Rattle.world_steps.specs.Lending.{begun_lent, new_from, new_two}
+use Rattle.world_steps.specs.Lending.{begun_lent, new_two}
 
 all_kept : (t : Bool) (names : List Name) → t ≡ true → filter (λ c. t) names ≡ names
 all_kept t names h = ap (λ s. filter (λ c. s) names) h ∙ all names
@@ -26,12 +22,6 @@ none_kept t names h = ap (λ s. filter (λ c. s) names) h ∙ none names
     none : (ns : List Name) → filter (λ c. false) ns ≡ []
     none [] = refl
     none (n ∷ ns) = none ns
-
-mapped : (f : ForestState) (a b : GuardianState) (e : Event) (names : List Name)
-    → new_from f (home_lent e.step f.registry) (life_lent e.step f.registry (lent_two a b)) names
-    ≡ map (λ c. (c, (action_lent f.opening e.step f.registry (lent_two a b) c).dependencies)) names
-mapped f a b e [] = refl
-mapped f a b e (n ∷ ns) = ap (λ l. (n, (action_lent f.opening e.step f.registry (lent_two a b) n).dependencies) ∷ l) (mapped f a b e ns)
 
 -- the life of the home of new actions
 pub life_is : (f : ForestState) (a b : GuardianState) (e : Event) (home life : ℕ) → home ≡ home_lent e.step f.registry
@@ -57,9 +47,9 @@ new_never f a b e g none =
 
 pub new_here : (f : ForestState) (a b : GuardianState) (e : Event) (g home life : ℕ) → home ≡ home_lent e.step f.registry
     → life ≡ crashes home (events_here (lent_two a b home)) → (home == g) ≡ true
-    → new_from f home life (names_begun e.answer) ≡ new_two f a b e g
+    → map (λ c. (c, new_entries f home life c)) (names_begun e.answer) ≡ new_two f a b e g
 new_here f a b e g home life h l q =
-    ap₂ (λ m k. new_from f m k (names_begun e.answer)) h (life_is f a b e home life h l) ∙ mapped f a b e (names_begun e.answer)
+    ap₂ (λ m k. map (λ c. (c, new_entries f m k c)) (names_begun e.answer)) h (life_is f a b e home life h l)
     ∙ sym (ap (λ ns. map (λ c. (c, (action_lent f.opening e.step f.registry (lent_two a b) c).dependencies)) ns)
     (all_kept (home_lent e.step f.registry == g) (names_begun e.answer) (sym (ap (λ m. m == g) h) ∙ q)))
 
@@ -68,20 +58,3 @@ pub new_elsewhere : (f : ForestState) (a b : GuardianState) (e : Event) (g home 
 new_elsewhere f a b e g home h q =
     sym (ap (λ ns. map (λ c. (c, (action_lent f.opening e.step f.registry (lent_two a b) c).dependencies)) ns)
     (none_kept (home_lent e.step f.registry == g) (names_begun e.answer) (sym (ap (λ m. m == g) h) ∙ q)))
-
-sent_more : (xs : List (Name × Deps)) (x : Name × Deps) → sent_of (xs ++ x ∷ []) ≡ sent_of xs ++ (x.0, tree.entries x.1) ∷ []
-sent_more [] x = refl
-sent_more (y ∷ ys) x = ap (λ l. (y.0, tree.entries y.1) ∷ l) (sent_more ys x)
-
--- one name more of a list
-pub new_one_more : (f : ForestState) (home life : ℕ) (names : List Name) (i : ℕ) (name : Name) (old new : List (Name × Deps))
-    (x : Name × Deps) (all : List (Name × List (ℕ × ℕ))) → i < length names → name ≡ get_or names i name
-    → x.0 ≡ name → tree.entries x.1 ≡ new_entries f home life name → new ≡ old ++ x ∷ []
-    → sent_of old ++ new_from f home life (drop i names) ≡ all → sent_of new ++ new_from f home life (drop (i + 1) names) ≡ all
-new_one_more f home life names i name old new x all lt is p q n h =
-    let rest = new_from f home life (drop (i + 1) names) in
-    let next : suc i ≡ i + 1 = omega arith in
-    ap (λ l. sent_of l ++ rest) n ∙ ap (λ l. l ++ rest) (sent_more old x)
-    ∙ ap₂ (λ a d. (sent_of old ++ (a, d) ∷ []) ++ rest) p q
-    ∙ append_assoc (sent_of old) ((name, new_entries f home life name) ∷ []) rest
-    ∙ sym (ap (λ l. sent_of old ++ new_from f home life l) (drop-cons names i name lt ∙ ap₂ (λ a l. a ∷ drop l names) (sym is) next)) ∙ h

@@ -1,5 +1,5 @@
 -- What a step is lent: the forest, and two guardians, which may be the same one twice.
-use Rattle.std.specs.Prelude.{◌≡◌, ℕ, true, ◌==◌, ◌||◌, IsTrue, List, [], ◌∷◌, map, filter}
+use Rattle.std.specs.Prelude.{◌≡◌, ℕ, true, ◌==◌, ◌||◌, IsTrue, List, [], map, filter}
 use Rattle.action_names.specs.Names.{Name}
 use Rattle.run_model.specs.declared.history.Event.{Event}
 use Rattle.run_model.specs.declared.step.Step.{Step}
@@ -10,7 +10,7 @@ use Rattle.run_model.specs.Refusals.{Facts}
 use Rattle.run_model.specs.LocalReadings.{LocalEvent, facts_here, results_here, told_committed_here}
 use Rattle.run_model.specs.LocalHistories.{NewAction, action_lent, dependencies_sent, dependency_there, entries_of, events_there, facts_lent, home_lent, life_lent, results_lent}
 use Rattle.layer_contracts.specs.Guardians.{GuardianState, count_told, lent_two}
-use Rattle.layer_contracts.specs.Forests.{ForestState, begun_in, new_entries}
+use Rattle.layer_contracts.specs.Forests.{ForestState, begun_in}
 use Rattle.step_answers.specs.Saying.{Said}
 use Rattle.world_steps.specs.declared.lent.Lent.{Lent}
 
@@ -113,11 +113,6 @@ pub record IsOneOf (a b x : GuardianState) : Type 0 where
 -- what an event begins, in the life of its home that is lent
 abbrev pub begun_lent : ForestState → GuardianState → GuardianState → Event → List NewAction
 begun_lent f a b e = begun_in f (life_lent e.step f.registry (lent_two a b)) e
-
--- new actions with their dependencies
-abbrev pub new_from : ForestState → ℕ → ℕ → List Name → List (Name × List (ℕ × ℕ))
-new_from f home life [] = []
-new_from f home life (c ∷ cs) = (c, new_entries f home life c) ∷ new_from f home life cs
 
 -- what an event says to g of dependencies: of new actions at home there, and of all
 abbrev pub new_two : ForestState → GuardianState → GuardianState → Event → ℕ

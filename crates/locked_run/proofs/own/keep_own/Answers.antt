@@ -6,7 +6,7 @@ use Rattle.world_steps.specs.Standings.{standing}
 use Rattle.shared_run.specs.Places.{touches}
 use Rattle.locked_run.specs.Acting.{StoreAfter}
 use Rattle.locked_run.specs.Acting.Outcome.{failed}
-use Rattle.locked_run.proofs.ByItself.{has_kept, may_add_it, next_here, store_failed, store_kept}
+use Rattle.locked_run.proofs.ByItself.{has_kept, may_add_it, next_here, own_begins, own_kind, store_failed, store_kept}
 use Rattle.locked_run.proofs.own.keep_own.Goals as goal
 
 pub keep_by_itself-kept-requires-clause-stamp : goal.keep_by_itself-kept-requires-clause-stamp
@@ -26,6 +26,15 @@ keep_by_itself-kept-requires-clause-next g c =
     let h = c.requires.here in
     let r : IsRun o (c.args.event.now ∷ seen_of v) = (c.requires.answered, c.requires.accepted, h.run) in
     (standing o (seen_of v) c.args.number, h.here, next_here h c.args.event.now.step c.args.event.now.answer r c.requires.own)
+
+pub keep_by_itself-kept-requires-clause-own : goal.keep_by_itself-kept-requires-clause-own
+keep_by_itself-kept-requires-clause-own g c = own_kind c.args.number c.args.event.now.step (seen_of c.args.part.token.me.0) c.requires.own
+
+pub keep_by_itself-kept-requires-clause-begins : goal.keep_by_itself-kept-requires-clause-begins
+keep_by_itself-kept-requires-clause-begins g c =
+    let past = seen_of c.args.part.token.me.0 in
+    own_begins g.K.OfRun.opening c.args.event.now past (c.requires.answered, c.requires.accepted, c.requires.here.run)
+    (own_kind c.args.number c.args.event.now.step past c.requires.own)
 
 pub returns-in-Ok-clause-here : goal.returns-in-Ok-clause-here
 returns-in-Ok-clause-here g c =

@@ -43,7 +43,7 @@ carry_out-requires-clause-planned g c =
     let e : Event = c.args.event.now in
     let brought : Brings f x x e x c.in_ok-keeps.keeps c.brought_to.new.message =
     c.in_ok-keeps.ensures f x x x here.lent here.lent.first (first_one x x) here.lent.opening.first here.answered in
-    let planned : Plans (g.G.Guardian.is_planned c.plan_at.new.guardian) f x x e x c.in_ok-keeps.keeps = c.in_ok-plan_at.ensures.planned f x x x here.lent.first brought in
+    let planned : Plans (g.G.Guardian.is_planned c.plan_at.new.guardian) f x x e x c.in_ok-keeps.keeps = c.in_ok-plan_at.ensures.planned f x x x (g.met.R.Forest.is_one c.plan_there.new.forest f (c.plan_there.ensures.same f here.lent.forest)) here.lent.first brought in
     let stood = c.plan_at.ensures.same x here.lent.first in
     planned_here (g.G.Guardian.stands c.plan_at.new.guardian) (g.G.Guardian.is_planned c.plan_at.new.guardian) f x x x e c.in_ok-keeps.keeps stood planned
 
@@ -63,7 +63,7 @@ returns-clause-done g c = λ f x here.
     let e : Event = c.args.event.now in
     let brought : Brings f x x e x c.in_ok-keeps.keeps c.brought_to.new.message =
     c.in_ok-keeps.ensures f x x x here.lent here.lent.first (first_one x x) here.lent.opening.first here.answered in
-    let planned : Plans (g.G.Guardian.is_planned c.plan_at.new.guardian) f x x e x c.in_ok-keeps.keeps = c.in_ok-plan_at.ensures.planned f x x x here.lent.first brought in
+    let planned : Plans (g.G.Guardian.is_planned c.plan_at.new.guardian) f x x e x c.in_ok-keeps.keeps = c.in_ok-plan_at.ensures.planned f x x x (g.met.R.Forest.is_one c.plan_there.new.forest f (c.plan_there.ensures.same f here.lent.forest)) here.lent.first brought in
     let stood = c.plan_at.ensures.same x here.lent.first in
     let n = c.in_ok-number.number in
     let after = left_at (g.G.Guardian.stands c.plan_at.new.guardian) (g.G.Guardian.stands c.carry_out.new.guardian) (g.G.Guardian.is_planned c.plan_at.new.guardian) f x x x e n c.in_ok-keeps.keeps here.lent.opening.first
@@ -102,7 +102,7 @@ returns-in_err-number-clause-store g c = λ f x here.
     let e : Event = c.args.event.now in
     let brought : Brings f x x e x c.in_ok-keeps.keeps c.brought_to.new.message =
     c.in_ok-keeps.ensures f x x x here.lent here.lent.first (first_one x x) here.lent.opening.first here.answered in
-    let planned : Plans (g.G.Guardian.is_planned c.plan_at.new.guardian) f x x e x c.in_ok-keeps.keeps = c.in_ok-plan_at.ensures.planned f x x x here.lent.first brought in
+    let planned : Plans (g.G.Guardian.is_planned c.plan_at.new.guardian) f x x e x c.in_ok-keeps.keeps = c.in_ok-plan_at.ensures.planned f x x x (g.met.R.Forest.is_one c.plan_there.new.forest f (c.plan_there.ensures.same f here.lent.forest)) here.lent.first brought in
     let stood = c.plan_at.ensures.same x here.lent.first in
     let old : View = g.G.Guardian.stored c.args.guardian.now in
     let mid : View = g.G.Guardian.stored c.plan_at.new.guardian in
@@ -115,7 +115,7 @@ returns-clause-store g c = λ f x here.
     let e : Event = c.args.event.now in
     let brought : Brings f x x e x c.in_ok-keeps.keeps c.brought_to.new.message =
     c.in_ok-keeps.ensures f x x x here.lent here.lent.first (first_one x x) here.lent.opening.first here.answered in
-    let planned : Plans (g.G.Guardian.is_planned c.plan_at.new.guardian) f x x e x c.in_ok-keeps.keeps = c.in_ok-plan_at.ensures.planned f x x x here.lent.first brought in
+    let planned : Plans (g.G.Guardian.is_planned c.plan_at.new.guardian) f x x e x c.in_ok-keeps.keeps = c.in_ok-plan_at.ensures.planned f x x x (g.met.R.Forest.is_one c.plan_there.new.forest f (c.plan_there.ensures.same f here.lent.forest)) here.lent.first brought in
     let stood = c.plan_at.ensures.same x here.lent.first in
     let old : View = g.G.Guardian.stored c.args.guardian.now in
     let mid : View = g.G.Guardian.stored c.plan_at.new.guardian in

@@ -70,7 +70,7 @@ carry_out-requires-clause-planned g c =
     let e : Event = c.args.event.now in
     let to_first : Brings f a b e a c.in_ok-keeps_first.keeps_first c.brought_to.new.message =
     c.in_ok-keeps_first.ensures f a b a here.lent here.lent.first (first_one a b) here.lent.opening.first here.answered in
-    let one : Plans (g.G.Guardian.is_planned c.plan_at.new.guardian) f a b e a c.in_ok-keeps_first.keeps_first = c.in_ok-plan_at.ensures.planned f a b a here.lent.first to_first in
+    let one : Plans (g.G.Guardian.is_planned c.plan_at.new.guardian) f a b e a c.in_ok-keeps_first.keeps_first = c.in_ok-plan_at.ensures.planned f a b a (g.met.R.Forest.is_one c.plan_there.new.forest f (c.plan_there.ensures.same f here.lent.forest)) here.lent.first to_first in
     let stood = c.plan_at.ensures.same a here.lent.first in
     planned_here (g.G.Guardian.stands c.plan_at.new.guardian) (g.G.Guardian.is_planned c.plan_at.new.guardian) f a b a e c.in_ok-keeps_first.keeps_first stood one
 
@@ -84,7 +84,7 @@ carry_out-requires-else-may_fail_at-clause-planned g c =
     let apart : (a.number == b.number) ≡ false = c.requires.answered.4 in
     let to_second : Brings f a b e b c.in_ok-keeps_second.keeps_second c.brought_to-2.new.message =
     c.in_ok-keeps_second.ensures f a b b here.lent here.lent.second (second_one a b apart) here.lent.opening.second here.answered in
-    let other : Plans (g.G.Guardian.is_planned c.plan_at-2.new.guardian) f a b e b c.in_ok-keeps_second.keeps_second = c.in_ok-plan_at-2.ensures.planned f a b b here.lent.second to_second in
+    let other : Plans (g.G.Guardian.is_planned c.plan_at-2.new.guardian) f a b e b c.in_ok-keeps_second.keeps_second = c.in_ok-plan_at-2.ensures.planned f a b b (g.met.R.Forest.is_one c.plan_there.new.forest f (c.plan_there.ensures.same f here.lent.forest)) here.lent.second to_second in
     let stood_also = c.plan_at-2.ensures.same b here.lent.second in
     planned_here (g.G.Guardian.stands c.plan_at-2.new.guardian) (g.G.Guardian.is_planned c.plan_at-2.new.guardian) f a b b e c.in_ok-keeps_second.keeps_second stood_also other
 
@@ -98,7 +98,7 @@ install-requires-clause-planned g c =
     let apart : (a.number == b.number) ≡ false = c.requires.answered.4 in
     let to_second : Brings f a b e b c.in_ok-keeps_second.keeps_second c.brought_to-2.new.message =
     c.in_ok-keeps_second.ensures f a b b here.lent here.lent.second (second_one a b apart) here.lent.opening.second here.answered in
-    let other : Plans (g.G.Guardian.is_planned c.plan_at-2.new.guardian) f a b e b c.in_ok-keeps_second.keeps_second = c.in_ok-plan_at-2.ensures.planned f a b b here.lent.second to_second in
+    let other : Plans (g.G.Guardian.is_planned c.plan_at-2.new.guardian) f a b e b c.in_ok-keeps_second.keeps_second = c.in_ok-plan_at-2.ensures.planned f a b b (g.met.R.Forest.is_one c.plan_there.new.forest f (c.plan_there.ensures.same f here.lent.forest)) here.lent.second to_second in
     let stood_also = c.plan_at-2.ensures.same b here.lent.second in
     planned_here (g.G.Guardian.stands c.plan_at-2.new.guardian) (g.G.Guardian.is_planned c.plan_at-2.new.guardian) f a b b e c.in_ok-keeps_second.keeps_second stood_also other
 
@@ -111,7 +111,7 @@ install-requires-else-may_fail_at-clause-planned g c =
     let e : Event = c.args.event.now in
     let to_first : Brings f a b e a c.in_ok-keeps_first.keeps_first c.brought_to.new.message =
     c.in_ok-keeps_first.ensures f a b a here.lent here.lent.first (first_one a b) here.lent.opening.first here.answered in
-    let one : Plans (g.G.Guardian.is_planned c.plan_at.new.guardian) f a b e a c.in_ok-keeps_first.keeps_first = c.in_ok-plan_at.ensures.planned f a b a here.lent.first to_first in
+    let one : Plans (g.G.Guardian.is_planned c.plan_at.new.guardian) f a b e a c.in_ok-keeps_first.keeps_first = c.in_ok-plan_at.ensures.planned f a b a (g.met.R.Forest.is_one c.plan_there.new.forest f (c.plan_there.ensures.same f here.lent.forest)) here.lent.first to_first in
     let stood = c.plan_at.ensures.same a here.lent.first in
     planned_here (g.G.Guardian.stands c.plan_at.new.guardian) (g.G.Guardian.is_planned c.plan_at.new.guardian) f a b a e c.in_ok-keeps_first.keeps_first stood one
 
@@ -125,11 +125,11 @@ install-requires-clause-quiet g c =
     let apart : (a.number == b.number) ≡ false = c.requires.answered.4 in
     let to_first : Brings f a b e a c.in_ok-keeps_first.keeps_first c.brought_to.new.message =
     c.in_ok-keeps_first.ensures f a b a here.lent here.lent.first (first_one a b) here.lent.opening.first here.answered in
-    let one : Plans (g.G.Guardian.is_planned c.plan_at.new.guardian) f a b e a c.in_ok-keeps_first.keeps_first = c.in_ok-plan_at.ensures.planned f a b a here.lent.first to_first in
+    let one : Plans (g.G.Guardian.is_planned c.plan_at.new.guardian) f a b e a c.in_ok-keeps_first.keeps_first = c.in_ok-plan_at.ensures.planned f a b a (g.met.R.Forest.is_one c.plan_there.new.forest f (c.plan_there.ensures.same f here.lent.forest)) here.lent.first to_first in
     let stood = c.plan_at.ensures.same a here.lent.first in
     let to_second : Brings f a b e b c.in_ok-keeps_second.keeps_second c.brought_to-2.new.message =
     c.in_ok-keeps_second.ensures f a b b here.lent here.lent.second (second_one a b apart) here.lent.opening.second here.answered in
-    let other : Plans (g.G.Guardian.is_planned c.plan_at-2.new.guardian) f a b e b c.in_ok-keeps_second.keeps_second = c.in_ok-plan_at-2.ensures.planned f a b b here.lent.second to_second in
+    let other : Plans (g.G.Guardian.is_planned c.plan_at-2.new.guardian) f a b e b c.in_ok-keeps_second.keeps_second = c.in_ok-plan_at-2.ensures.planned f a b b (g.met.R.Forest.is_one c.plan_there.new.forest f (c.plan_there.ensures.same f here.lent.forest)) here.lent.second to_second in
     let stood_also = c.plan_at-2.ensures.same b here.lent.second in
     quiet_here (g.G.Guardian.stands c.plan_at-2.new.guardian) b e.step c.in_ok-keeps_second.keeps_second stood_also
     (quiet_other (g.G.Guardian.is_planned c.plan_at.new.guardian) (g.G.Guardian.is_planned c.plan_at-2.new.guardian) f a b a b e c.in_ok-keeps_first.keeps_first c.in_ok-keeps_second.keeps_second (sym (c.may_fail_at.ensures a stood) ∙ c.if-may_fail_at.true) apart one other)
@@ -143,7 +143,7 @@ install-requires-else-may_fail_at-clause-quiet g c =
     let e : Event = c.args.event.now in
     let to_first : Brings f a b e a c.in_ok-keeps_first.keeps_first c.brought_to.new.message =
     c.in_ok-keeps_first.ensures f a b a here.lent here.lent.first (first_one a b) here.lent.opening.first here.answered in
-    let one : Plans (g.G.Guardian.is_planned c.plan_at.new.guardian) f a b e a c.in_ok-keeps_first.keeps_first = c.in_ok-plan_at.ensures.planned f a b a here.lent.first to_first in
+    let one : Plans (g.G.Guardian.is_planned c.plan_at.new.guardian) f a b e a c.in_ok-keeps_first.keeps_first = c.in_ok-plan_at.ensures.planned f a b a (g.met.R.Forest.is_one c.plan_there.new.forest f (c.plan_there.ensures.same f here.lent.forest)) here.lent.first to_first in
     let stood = c.plan_at.ensures.same a here.lent.first in
     quiet_here (g.G.Guardian.stands c.plan_at.new.guardian) a e.step c.in_ok-keeps_first.keeps_first stood
     (quiet_first e.step a.number c.in_ok-keeps_first.keeps_first (sym (c.may_fail_at.ensures a stood) ∙ c.if-may_fail_at.false))
@@ -213,7 +213,7 @@ returns-in_err-number-clause-first_store g c = λ f a b here.
     let e : Event = c.args.event.now in
     let to_first : Brings f a b e a c.in_ok-keeps_first.keeps_first c.brought_to.new.message =
     c.in_ok-keeps_first.ensures f a b a here.lent here.lent.first (first_one a b) here.lent.opening.first here.answered in
-    let one : Plans (g.G.Guardian.is_planned c.plan_at.new.guardian) f a b e a c.in_ok-keeps_first.keeps_first = c.in_ok-plan_at.ensures.planned f a b a here.lent.first to_first in
+    let one : Plans (g.G.Guardian.is_planned c.plan_at.new.guardian) f a b e a c.in_ok-keeps_first.keeps_first = c.in_ok-plan_at.ensures.planned f a b a (g.met.R.Forest.is_one c.plan_there.new.forest f (c.plan_there.ensures.same f here.lent.forest)) here.lent.first to_first in
     let stood = c.plan_at.ensures.same a here.lent.first in
     let old : View = g.G.Guardian.stored c.args.first.now in
     let mid : View = g.G.Guardian.stored c.plan_at.new.guardian in
@@ -230,11 +230,11 @@ returns-in_err-number-clause-second_store g c = λ f a b here.
     c.number.ensures.number c.number-2.ensures.number some.3.lent.first some.3.lent.second here.lent.first here.lent.second some.4 in
     let to_first : Brings f a b e a c.in_ok-keeps_first.keeps_first c.brought_to.new.message =
     c.in_ok-keeps_first.ensures f a b a here.lent here.lent.first (first_one a b) here.lent.opening.first here.answered in
-    let one : Plans (g.G.Guardian.is_planned c.plan_at.new.guardian) f a b e a c.in_ok-keeps_first.keeps_first = c.in_ok-plan_at.ensures.planned f a b a here.lent.first to_first in
+    let one : Plans (g.G.Guardian.is_planned c.plan_at.new.guardian) f a b e a c.in_ok-keeps_first.keeps_first = c.in_ok-plan_at.ensures.planned f a b a (g.met.R.Forest.is_one c.plan_there.new.forest f (c.plan_there.ensures.same f here.lent.forest)) here.lent.first to_first in
     let stood = c.plan_at.ensures.same a here.lent.first in
     let to_second : Brings f a b e b c.in_ok-keeps_second.keeps_second c.brought_to-2.new.message =
     c.in_ok-keeps_second.ensures f a b b here.lent here.lent.second (second_one a b apart) here.lent.opening.second here.answered in
-    let other : Plans (g.G.Guardian.is_planned c.plan_at-2.new.guardian) f a b e b c.in_ok-keeps_second.keeps_second = c.in_ok-plan_at-2.ensures.planned f a b b here.lent.second to_second in
+    let other : Plans (g.G.Guardian.is_planned c.plan_at-2.new.guardian) f a b e b c.in_ok-keeps_second.keeps_second = c.in_ok-plan_at-2.ensures.planned f a b b (g.met.R.Forest.is_one c.plan_there.new.forest f (c.plan_there.ensures.same f here.lent.forest)) here.lent.second to_second in
     let stood_also = c.plan_at-2.ensures.same b here.lent.second in
     let old : View = g.G.Guardian.stored c.args.second.now in
     let mid : View = g.G.Guardian.stored c.plan_at-2.new.guardian in
@@ -247,7 +247,7 @@ returns-in_err-number-2-clause-first_store g c = λ f a b here.
     let e : Event = c.args.event.now in
     let to_first : Brings f a b e a c.in_ok-keeps_first.keeps_first c.brought_to.new.message =
     c.in_ok-keeps_first.ensures f a b a here.lent here.lent.first (first_one a b) here.lent.opening.first here.answered in
-    let one : Plans (g.G.Guardian.is_planned c.plan_at.new.guardian) f a b e a c.in_ok-keeps_first.keeps_first = c.in_ok-plan_at.ensures.planned f a b a here.lent.first to_first in
+    let one : Plans (g.G.Guardian.is_planned c.plan_at.new.guardian) f a b e a c.in_ok-keeps_first.keeps_first = c.in_ok-plan_at.ensures.planned f a b a (g.met.R.Forest.is_one c.plan_there.new.forest f (c.plan_there.ensures.same f here.lent.forest)) here.lent.first to_first in
     let stood = c.plan_at.ensures.same a here.lent.first in
     let old : View = g.G.Guardian.stored c.args.first.now in
     let mid : View = g.G.Guardian.stored c.plan_at.new.guardian in
@@ -264,7 +264,7 @@ returns-in_err-number-2-clause-second_store g c = λ f a b here.
     c.number.ensures.number c.number-2.ensures.number some.3.lent.first some.3.lent.second here.lent.first here.lent.second some.4 in
     let to_second : Brings f a b e b c.in_ok-keeps_second.keeps_second c.brought_to-2.new.message =
     c.in_ok-keeps_second.ensures f a b b here.lent here.lent.second (second_one a b apart) here.lent.opening.second here.answered in
-    let other : Plans (g.G.Guardian.is_planned c.plan_at-2.new.guardian) f a b e b c.in_ok-keeps_second.keeps_second = c.in_ok-plan_at-2.ensures.planned f a b b here.lent.second to_second in
+    let other : Plans (g.G.Guardian.is_planned c.plan_at-2.new.guardian) f a b e b c.in_ok-keeps_second.keeps_second = c.in_ok-plan_at-2.ensures.planned f a b b (g.met.R.Forest.is_one c.plan_there.new.forest f (c.plan_there.ensures.same f here.lent.forest)) here.lent.second to_second in
     let stood_also = c.plan_at-2.ensures.same b here.lent.second in
     let old : View = g.G.Guardian.stored c.args.second.now in
     let mid : View = g.G.Guardian.stored c.plan_at-2.new.guardian in
@@ -277,7 +277,7 @@ returns-in_ok-number-clause-first_store g c = λ f a b here.
     let e : Event = c.args.event.now in
     let to_first : Brings f a b e a c.in_ok-keeps_first.keeps_first c.brought_to.new.message =
     c.in_ok-keeps_first.ensures f a b a here.lent here.lent.first (first_one a b) here.lent.opening.first here.answered in
-    let one : Plans (g.G.Guardian.is_planned c.plan_at.new.guardian) f a b e a c.in_ok-keeps_first.keeps_first = c.in_ok-plan_at.ensures.planned f a b a here.lent.first to_first in
+    let one : Plans (g.G.Guardian.is_planned c.plan_at.new.guardian) f a b e a c.in_ok-keeps_first.keeps_first = c.in_ok-plan_at.ensures.planned f a b a (g.met.R.Forest.is_one c.plan_there.new.forest f (c.plan_there.ensures.same f here.lent.forest)) here.lent.first to_first in
     let stood = c.plan_at.ensures.same a here.lent.first in
     let old : View = g.G.Guardian.stored c.args.first.now in
     let mid : View = g.G.Guardian.stored c.plan_at.new.guardian in
@@ -294,11 +294,11 @@ returns-in_ok-number-clause-second_store g c = λ f a b here.
     c.number.ensures.number c.number-2.ensures.number some.3.lent.first some.3.lent.second here.lent.first here.lent.second some.4 in
     let to_first : Brings f a b e a c.in_ok-keeps_first.keeps_first c.brought_to.new.message =
     c.in_ok-keeps_first.ensures f a b a here.lent here.lent.first (first_one a b) here.lent.opening.first here.answered in
-    let one : Plans (g.G.Guardian.is_planned c.plan_at.new.guardian) f a b e a c.in_ok-keeps_first.keeps_first = c.in_ok-plan_at.ensures.planned f a b a here.lent.first to_first in
+    let one : Plans (g.G.Guardian.is_planned c.plan_at.new.guardian) f a b e a c.in_ok-keeps_first.keeps_first = c.in_ok-plan_at.ensures.planned f a b a (g.met.R.Forest.is_one c.plan_there.new.forest f (c.plan_there.ensures.same f here.lent.forest)) here.lent.first to_first in
     let stood = c.plan_at.ensures.same a here.lent.first in
     let to_second : Brings f a b e b c.in_ok-keeps_second.keeps_second c.brought_to-2.new.message =
     c.in_ok-keeps_second.ensures f a b b here.lent here.lent.second (second_one a b apart) here.lent.opening.second here.answered in
-    let other : Plans (g.G.Guardian.is_planned c.plan_at-2.new.guardian) f a b e b c.in_ok-keeps_second.keeps_second = c.in_ok-plan_at-2.ensures.planned f a b b here.lent.second to_second in
+    let other : Plans (g.G.Guardian.is_planned c.plan_at-2.new.guardian) f a b e b c.in_ok-keeps_second.keeps_second = c.in_ok-plan_at-2.ensures.planned f a b b (g.met.R.Forest.is_one c.plan_there.new.forest f (c.plan_there.ensures.same f here.lent.forest)) here.lent.second to_second in
     let stood_also = c.plan_at-2.ensures.same b here.lent.second in
     let old : View = g.G.Guardian.stored c.args.second.now in
     let mid : View = g.G.Guardian.stored c.plan_at-2.new.guardian in
@@ -312,7 +312,7 @@ returns-in_ok-number-2-clause-first_store g c = λ f a b here.
     let e : Event = c.args.event.now in
     let to_first : Brings f a b e a c.in_ok-keeps_first.keeps_first c.brought_to.new.message =
     c.in_ok-keeps_first.ensures f a b a here.lent here.lent.first (first_one a b) here.lent.opening.first here.answered in
-    let one : Plans (g.G.Guardian.is_planned c.plan_at.new.guardian) f a b e a c.in_ok-keeps_first.keeps_first = c.in_ok-plan_at.ensures.planned f a b a here.lent.first to_first in
+    let one : Plans (g.G.Guardian.is_planned c.plan_at.new.guardian) f a b e a c.in_ok-keeps_first.keeps_first = c.in_ok-plan_at.ensures.planned f a b a (g.met.R.Forest.is_one c.plan_there.new.forest f (c.plan_there.ensures.same f here.lent.forest)) here.lent.first to_first in
     let stood = c.plan_at.ensures.same a here.lent.first in
     let old : View = g.G.Guardian.stored c.args.first.now in
     let mid : View = g.G.Guardian.stored c.plan_at.new.guardian in
@@ -330,7 +330,7 @@ returns-in_ok-number-2-clause-second_store g c = λ f a b here.
     c.number.ensures.number c.number-2.ensures.number some.3.lent.first some.3.lent.second here.lent.first here.lent.second some.4 in
     let to_second : Brings f a b e b c.in_ok-keeps_second.keeps_second c.brought_to-2.new.message =
     c.in_ok-keeps_second.ensures f a b b here.lent here.lent.second (second_one a b apart) here.lent.opening.second here.answered in
-    let other : Plans (g.G.Guardian.is_planned c.plan_at-2.new.guardian) f a b e b c.in_ok-keeps_second.keeps_second = c.in_ok-plan_at-2.ensures.planned f a b b here.lent.second to_second in
+    let other : Plans (g.G.Guardian.is_planned c.plan_at-2.new.guardian) f a b e b c.in_ok-keeps_second.keeps_second = c.in_ok-plan_at-2.ensures.planned f a b b (g.met.R.Forest.is_one c.plan_there.new.forest f (c.plan_there.ensures.same f here.lent.forest)) here.lent.second to_second in
     let stood_also = c.plan_at-2.ensures.same b here.lent.second in
     let old : View = g.G.Guardian.stored c.args.second.now in
     let mid : View = g.G.Guardian.stored c.plan_at-2.new.guardian in
@@ -397,11 +397,11 @@ returns-in_ok-number-clause-done g c = λ f a b here.
     c.number.ensures.number c.number-2.ensures.number some.3.lent.first some.3.lent.second here.lent.first here.lent.second some.4 in
     let to_first : Brings f a b e a c.in_ok-keeps_first.keeps_first c.brought_to.new.message =
     c.in_ok-keeps_first.ensures f a b a here.lent here.lent.first (first_one a b) here.lent.opening.first here.answered in
-    let one : Plans (g.G.Guardian.is_planned c.plan_at.new.guardian) f a b e a c.in_ok-keeps_first.keeps_first = c.in_ok-plan_at.ensures.planned f a b a here.lent.first to_first in
+    let one : Plans (g.G.Guardian.is_planned c.plan_at.new.guardian) f a b e a c.in_ok-keeps_first.keeps_first = c.in_ok-plan_at.ensures.planned f a b a (g.met.R.Forest.is_one c.plan_there.new.forest f (c.plan_there.ensures.same f here.lent.forest)) here.lent.first to_first in
     let stood = c.plan_at.ensures.same a here.lent.first in
     let to_second : Brings f a b e b c.in_ok-keeps_second.keeps_second c.brought_to-2.new.message =
     c.in_ok-keeps_second.ensures f a b b here.lent here.lent.second (second_one a b apart) here.lent.opening.second here.answered in
-    let other : Plans (g.G.Guardian.is_planned c.plan_at-2.new.guardian) f a b e b c.in_ok-keeps_second.keeps_second = c.in_ok-plan_at-2.ensures.planned f a b b here.lent.second to_second in
+    let other : Plans (g.G.Guardian.is_planned c.plan_at-2.new.guardian) f a b e b c.in_ok-keeps_second.keeps_second = c.in_ok-plan_at-2.ensures.planned f a b b (g.met.R.Forest.is_one c.plan_there.new.forest f (c.plan_there.ensures.same f here.lent.forest)) here.lent.second to_second in
     let stood_also = c.plan_at-2.ensures.same b here.lent.second in
     let n = c.in_ok-number.number in
     record {
@@ -428,11 +428,11 @@ returns-in_ok-number-2-clause-done g c = λ f a b here.
     c.number.ensures.number c.number-2.ensures.number some.3.lent.first some.3.lent.second here.lent.first here.lent.second some.4 in
     let to_first : Brings f a b e a c.in_ok-keeps_first.keeps_first c.brought_to.new.message =
     c.in_ok-keeps_first.ensures f a b a here.lent here.lent.first (first_one a b) here.lent.opening.first here.answered in
-    let one : Plans (g.G.Guardian.is_planned c.plan_at.new.guardian) f a b e a c.in_ok-keeps_first.keeps_first = c.in_ok-plan_at.ensures.planned f a b a here.lent.first to_first in
+    let one : Plans (g.G.Guardian.is_planned c.plan_at.new.guardian) f a b e a c.in_ok-keeps_first.keeps_first = c.in_ok-plan_at.ensures.planned f a b a (g.met.R.Forest.is_one c.plan_there.new.forest f (c.plan_there.ensures.same f here.lent.forest)) here.lent.first to_first in
     let stood = c.plan_at.ensures.same a here.lent.first in
     let to_second : Brings f a b e b c.in_ok-keeps_second.keeps_second c.brought_to-2.new.message =
     c.in_ok-keeps_second.ensures f a b b here.lent here.lent.second (second_one a b apart) here.lent.opening.second here.answered in
-    let other : Plans (g.G.Guardian.is_planned c.plan_at-2.new.guardian) f a b e b c.in_ok-keeps_second.keeps_second = c.in_ok-plan_at-2.ensures.planned f a b b here.lent.second to_second in
+    let other : Plans (g.G.Guardian.is_planned c.plan_at-2.new.guardian) f a b e b c.in_ok-keeps_second.keeps_second = c.in_ok-plan_at-2.ensures.planned f a b b (g.met.R.Forest.is_one c.plan_there.new.forest f (c.plan_there.ensures.same f here.lent.forest)) here.lent.second to_second in
     let stood_also = c.plan_at-2.ensures.same b here.lent.second in
     let n = c.in_ok-number-2.number in
     record {

@@ -17,6 +17,6 @@ returns g c = λ f a b x lent stood one opening answered.
     record {
       named = named;
       carried = message;
-      agrees = agrees_at f a b x e (carried_of c.fill.new.message) opening one.past one.number message answered.agrees named;
-      owed = owed_at f a b x e (carried_of c.fill.new.message) opening one.past message answered named;
+      agrees = agrees_at f a b x e (carried_of f e c.fill.new.message) opening one.past one.number message answered.agrees named;
+      owed = owed_at f a b x e (carried_of f e c.fill.new.message) opening one.past message answered named;
     }

@@ -6,7 +6,7 @@ use Rattle.run_model.specs.LocalHistories.{aborts_from, carried_lent, counts_of_
 use Rattle.run_model.proofs.Events.{step_is}
 use Rattle.layer_contracts.specs.Guardians.{GuardianState, lent_two}
 use Rattle.layer_contracts.specs.Forests.{ForestState}
-use Rattle.guardian_laws.specs.Sent.{sent_of}
+use Rattle.layer_contracts.specs.Messages.{sent_by}
 use Rattle.world_steps.specs.Lending.{dependencies_two}
 use Rattle.world_steps.proofs.lent.Lent.fill.Goals as goal
 
@@ -44,8 +44,8 @@ pub returns : goal.returns
 returns g c = λ f a b x lent stood one.
     let step = step_is c.event.view_is in
     carried_is f a b c.args.event.now x.number c.number.result c.number-2.result c.sender-sender.result c.life_of-message.result
-    c.lists.new.aborts c.lists.new.counts.items (sent_of c.dependencies.new.sent.items) c.outcomes.new.outcomes.items
+    c.lists.new.aborts c.lists.new.counts.items (sent_by f c.args.event.now c.dependencies-message.result) c.outcomes.new.outcomes.items
     (c.number.ensures.number x stood) (c.number-2.ensures.number x stood) (c.sender-sender.ensures f a b lent ∙ ap (λ s. sender_lent s c.number.result f.registry (lent_two a b)) (sym step))
     (c.life_of-message.ensures a b lent.first lent.second) (c.in_ok-lists.ensures.aborts f a b x lent stood one)
-    (c.in_ok-lists.ensures.counts f a b x lent stood one) (c.in_ok-dependencies.ensures f a b lent) (c.in_ok-outcomes.ensures f a b x lent stood one
+    (c.in_ok-lists.ensures.counts f a b x lent stood one) (c.dependencies-message.ensures f a b lent) (c.in_ok-outcomes.ensures f a b x lent stood one
     ∙ ap (λ s. outcomes_carried s x.number (events_there f.registry) (lent_two a b x.number)) (sym step))

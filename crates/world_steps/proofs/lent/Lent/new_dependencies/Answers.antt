@@ -1,11 +1,8 @@
-use Rattle.std.proofs.Common.{OnOk, ◌==◌, ap, eqb-true, subst, sym, List, ℕ, ◌∙◌, ◌≡◌}
+use Rattle.std.proofs.Common.{◌==◌, List, ap, eqb-true, map, sym, ◌∙◌}
 use Rattle.std.proofs.lemmas.Bool.{ne_eqb}
 use Rattle.std.proofs.lemmas.List.{nil_from_length}
-use Rattle.action_names.specs.Names.{Name}
 use Rattle.run_model.specs.Actions.{names_begun}
-use Rattle.guardian_laws.specs.Sent.{sent_of}
 use Rattle.run_model.proofs.Events.{answer_is, step_is}
-use Rattle.world_steps.specs.Lending.{new_from}
 use Rattle.world_steps.proofs.Naming.{home_of_same}
 use Rattle.world_steps.proofs.New.{new_elsewhere, new_here, new_never}
 use Rattle.run_laws.proofs.Names.{eqb_self}
@@ -13,20 +10,15 @@ use Rattle.world_steps.proofs.lent.Lent.new_dependencies.Goals as goal
 
 pub returns-then-is_empty : goal.returns-then-is_empty
 returns-then-is_empty g c = λ f a b lent.
-    let none = nil_from_length c.names_begun-names.result.now (eqb-true _ _ (sym c.is_empty.ensures ∙ c.if-is_empty.true)) in
-    ap sent_of c.clear.ensures.items
-    ∙ new_never f a b c.args.event.now c.args.at (ap names_begun (answer_is c.event.view_is) ∙ sym c.names_begun-names.ensures ∙ none)
+    let none = nil_from_length c.names_begun.result.now (eqb-true _ _ (sym c.is_empty.ensures ∙ c.if-is_empty.true)) in
+    new_never f a b c.args.event.now c.args.at (ap names_begun (answer_is c.event.view_is) ∙ sym c.names_begun.ensures ∙ none)
 
 pub returns-then-home-at : goal.returns-then-home-at
 returns-then-home-at g c = λ f a b lent.
-    ap sent_of c.clear.ensures.items
-    ∙ new_elsewhere f a b c.args.event.now c.args.at c.home_of_new-home.result (home_of_same c.args.named c.home_of_new-home.result (step_is c.event.view_is) c.home_of_new-home.ensures f (c.requires.first f lent.forest) (c.requires.second f lent.forest)) (ne_eqb _ _ c.if-home-at.true)
+    new_elsewhere f a b c.args.event.now c.args.at c.home_of_new-home.result (home_of_same c.args.named c.home_of_new-home.result (step_is c.event.view_is) c.home_of_new-home.ensures f (c.requires.first f lent.forest) (c.requires.second f lent.forest)) (ne_eqb _ _ c.if-home-at.true)
 
 pub returns : goal.returns
 returns g c = λ f a b lent.
-    let P : List (Name × List (ℕ × ℕ)) → Type 0 = λ all. OnOk c.dependencies_of_new.result (sent_of c.dependencies_of_new.new.sent.items ≡ all) in
-    subst P
-    (ap (λ ns. new_from f c.home_of_new-home.result c.crashes_at-life.result ns)
-    (c.names_begun-names.ensures ∙ ap names_begun (sym (answer_is c.event.view_is)))
-    ∙ new_here f a b c.args.event.now c.args.at c.home_of_new-home.result c.crashes_at-life.result (home_of_same c.args.named c.home_of_new-home.result (step_is c.event.view_is) c.home_of_new-home.ensures f (c.requires.first f lent.forest) (c.requires.second f lent.forest)) (c.crashes_at-life.ensures a b lent.first lent.second)
-    (ap (λ m. m == c.args.at) c.if-home-at.false ∙ eqb_self c.args.at)) (c.dependencies_of_new.ensures f lent.forest)
+    new_here f a b c.args.event.now c.args.at c.home_of_new-home.result c.crashes_at-life.result
+    (home_of_same c.args.named c.home_of_new-home.result (step_is c.event.view_is) c.home_of_new-home.ensures f (c.requires.first f lent.forest) (c.requires.second f lent.forest))
+    (c.crashes_at-life.ensures a b lent.first lent.second) (ap (λ m. m == c.args.at) c.if-home-at.false ∙ eqb_self c.args.at)
