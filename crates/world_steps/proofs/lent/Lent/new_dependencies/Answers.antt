@@ -1,4 +1,4 @@
-use Rattle.std.proofs.Common.{◌==◌, List, ap, eqb-true, map, sym, ◌∙◌}
+use Rattle.std.proofs.Common.{◌==◌, ap, eqb-true, sym, ◌∙◌}
 use Rattle.std.proofs.lemmas.Bool.{ne_eqb}
 use Rattle.std.proofs.lemmas.List.{nil_from_length}
 use Rattle.run_model.specs.Actions.{names_begun}
@@ -19,6 +19,6 @@ returns-then-home-at g c = λ f a b lent.
 
 pub returns : goal.returns
 returns g c = λ f a b lent.
-    new_here f a b c.args.event.now c.args.at c.home_of_new-home.result c.crashes_at-life.result
+    new_here f a b c.args.event.now c.args.at c.home_of_new-home.result c.crashes_at.result
     (home_of_same c.args.named c.home_of_new-home.result (step_is c.event.view_is) c.home_of_new-home.ensures f (c.requires.first f lent.forest) (c.requires.second f lent.forest))
-    (c.crashes_at-life.ensures a b lent.first lent.second) (ap (λ m. m == c.args.at) c.if-home-at.false ∙ eqb_self c.args.at)
+    (c.crashes_at.ensures a b lent.first lent.second) (ap (λ m. m == c.args.at) c.if-home-at.false ∙ eqb_self c.args.at)
