@@ -7,5 +7,5 @@ returns-in_err-merge-clause-rising g c = rising_in c.self.invariant c.self.view_
 pub returns-clause-rising : goal.returns-clause-rising
 returns-clause-rising g c = rising_in c.self.invariant c.self.view_is
 
-pub returns-then-eq-clause-rising : goal.returns-then-eq-clause-rising
-returns-then-eq-clause-rising g c = rising_in c.self.invariant c.self.view_is
+pub returns-then-len-clause-rising : goal.returns-then-len-clause-rising
+returns-then-len-clause-rising g c = rising_in c.self.invariant c.self.view_is
