@@ -180,15 +180,6 @@ impl Forest {
         Some(&self.node(path)?.depends)
     }
 
-    /// On which guardians the action depends, with the least incarnation of each, in a copy.
-    pub fn dependencies(&self, path: &[u32]) -> Result<Deps, AllocError>
-        ensures { AtEach (trees self.now)
-            (λ opening registry. IfOk result (λ depends. map.entries depends
-            ≡ entries_of opening (λ h. dependency_there path.now h registry))) }
-    {
-        self.depends_of(path)
-    }
-
     /// On which guardians an action depends that begins at this home in this life of it.
     pub fn new_dependencies(&self, action: &Name, home: u32, life: u64) -> Result<Deps, AllocError>
         ensures { AtEach (trees self.now)

@@ -122,10 +122,6 @@ impl Forest for Registry {
             .dependency(action.components(), guardian)
     }
 
-    fn dependencies(&self, action: &Name) -> Result<Deps, AllocError> {
-        self.actions.forest.dependencies(action.components())
-    }
-
     fn outcomes_below<G: Guardian>(
         &self,
         top: &Name,
