@@ -39,7 +39,7 @@ none_of : {X : Type 0} (o : Option X) → is_some o ≡ false → o ≡ None
 none_of None h = refl
 none_of (Some x) h = absurd (cc)
 
-lesser_none : (o : Option ℕ) → lesser o None ≡ o
+pub lesser_none : (o : Option ℕ) → lesser o None ≡ o
 lesser_none None = refl
 lesser_none (Some n) = refl
 

@@ -1,13 +1,17 @@
--- An entry that makes nothing of a roster.
-use Rattle.std.proofs.Common.{Bool, None, ap, arith, cond, false, refl, sym, true, ◌≡◌}
+-- An entry that makes nothing of a roster, or nothing of actions.
+use Rattle.std.proofs.Common.{Bool, None, [], ap, arith, cond, false, refl, subst, sym, true, ◌∙◌, ◌≡◌}
 use Rattle.guardian_laws.specs.Sent.{Sent}
 use Rattle.run_model.specs.declared.history.Event.{Event}
 use Rattle.run_model.specs.declared.step.Step.{Step}
 use Rattle.run_model.specs.declared.step.Step.TheVariants.{Abort, Arms, Call, Close, Commit, Crash, Decide, NestedTop, Op, Prepare, Recover, Tell, Top}
-use Rattle.roster.specs.Entries.{ConcernsNone, FitsMade, IsMade, IsMerged}
-use Rattle.roster.specs.Steps.{ended_in}
+use Rattle.run_model.specs.Actions.{maker_in, names_begun}
+use Rattle.layer_contracts.specs.Messages.{is_turn}
+use Rattle.roster.specs.Entries.{CanCount, ConcernsNone, FitsMade, IsMade, IsMerged}
+use Rattle.roster.specs.Steps.{closed_in, ended_in, turn_in}
 use Rattle.roster.specs.Tables.{Table, made_by, nothing_made, placed, written_in}
+use Rattle.roster.specs.declared.entry.Birth.{Birth}
 use Rattle.roster.specs.declared.entry.Entry.{Entry}
+use Rattle.roster.specs.declared.entry.Turn.{Turn}
 use Rattle.roster.specs.declared.roster.Roster.{Roster}
 
 -- where nothing ends, nothing is merged
@@ -48,3 +52,43 @@ made_idle entry idle = ap (λ (b : Bool). cond b nothing_made (written_in entry)
 
 pub made_written : (entry : Entry) → entry.idle ≡ false → made_by entry ≡ written_in entry
 made_written entry busy = ap (λ (b : Bool). cond b nothing_made (written_in entry)) busy
+
+-- ---- a crash or a recovery
+
+turn_ends : (step : Step) → is_turn step ≡ true → (ended_in step ≡ None) × (closed_in step ≡ None) × (maker_in step ≡ None)
+turn_ends (Crash h) is = (refl, refl, refl)
+turn_ends (Recover h) is = (refl, refl, refl)
+turn_ends (Commit a) is = absurd (cc)
+turn_ends (Abort a) is = absurd (cc)
+turn_ends (Decide a) is = absurd (cc)
+turn_ends (Close a) is = absurd (cc)
+turn_ends (Prepare h a) is = absurd (cc)
+turn_ends (Tell h a) is = absurd (cc)
+turn_ends (Top h) is = absurd (cc)
+turn_ends (NestedTop a) is = absurd (cc)
+turn_ends (Call a h) is = absurd (cc)
+turn_ends (Arms a kinds) is = absurd (cc)
+turn_ends (Op a x wanted) is = absurd (cc)
+
+-- what makes nothing but a turn is that of an event which begins nothing
+pub turn_made : (t : Table) (e : Event) (birth : Birth) (turn : Turn) → is_turn e.step ≡ true → names_begun e.answer ≡ [] → birth.maker ≡ None
+    → turn ≡ turn_in e.step → IsMade t e [] (record nothing_made { birth = birth; turn = turn })
+turn_made t e birth turn is begins maker turns =
+    let ends = turn_ends e.step is in
+    record {
+      ended = ap (placed t) (sym ends.0);
+      closed = ap (placed t) (sym ends.1);
+      merged = merges_none t e.step [] ends.0;
+      maker = maker ∙ ap (placed t) (sym ends.2);
+      begun = record { names = sym begins; named = tt; rows = tt };
+      placed = tt;
+      turn = turns;
+    }
+
+-- and each roster has room for it
+pub turn_fits : (roster : Roster) (birth : Birth) (turn : Turn) → birth.maker ≡ None
+    → FitsMade roster (record nothing_made { birth = birth; turn = turn })
+turn_fits roster birth turn maker = record {
+  begun = record { rows = omega (arith, roster.rows.ok.1); places = tt };
+  count = subst (λ at. CanCount roster.rows.items at 0) (sym maker) tt;
+}

@@ -7,6 +7,7 @@ pub mod Events
 pub mod Entering
 pub mod Readings
 pub mod Came
+pub mod Sent
 pub mod Planning
 pub mod Idle
 pub mod Reopened

@@ -1,22 +1,21 @@
--- What came under a name, and rows that are planned one after another.
-use Rattle.std.proofs.Common.{Bool, List, [], None, Option, Some, ap, arith, cond, drop, false, get_or, length, map, refl, subst, suc, sym, true, zero, ℕ, ◌++◌, ◌+◌, ◌<◌, ◌^◌, ◌∙◌, ◌∷◌, ◌≡◌, ◌≤◌, ◌↔◌}
+-- Rows that are planned one after another.
+use Rattle.std.proofs.Common.{Bool, List, [], None, Option, Some, ap, arith, cond, false, get_or, length, map, refl, subst, sym, true, ℕ, ◌++◌, ◌+◌, ◌<◌, ◌^◌, ◌∙◌, ◌∷◌, ◌≡◌, ◌≤◌, ◌↔◌}
 use Rattle.std.specs.FinMap as tree
 use Rattle.std.specs.List.{AllByRecursion}
 use Rattle.std.specs.Option.{option_and_then}
 use Rattle.std.specs.Prelude.{IfSome, IsNone, IsTrue, MatchOption}
 use Rattle.action_names.specs.Deps.{Deps}
 use Rattle.std.proofs.lemmas.List.{get_or_append_left, length-append, map-append}
-use Rattle.action_names.specs.Names.{IsName, Name, is_top, parent_of, same_name}
+use Rattle.action_names.specs.Names.{IsName, Name, is_top, parent_of}
 use Rattle.places.specs.Placed.{AreMore, place_in}
 use Rattle.places.specs.Rows as by_place
 use Rattle.places.proofs.Looking.{place_at, place_stays}
 use Rattle.places.proofs.Standing.{row_more, row_same}
 use Rattle.roster.specs.Rosters.{IsRoster}
 use Rattle.roster.specs.declared.roster.Roster.{Roster}
-use Rattle.run_model.specs.LocalReadings.{LocalEvent, beside, least_of}
+use Rattle.run_model.specs.LocalReadings.{LocalEvent, least_of}
 use Rattle.roster.proofs.Added.{added_last}
-use Rattle.roster.proofs.Came.{beside_get}
-use Rattle.guardian_laws.specs.Sent.{Sent, sent_of}
+use Rattle.guardian_laws.specs.Sent.{Sent}
 use Rattle.holders.specs.Held.{names_of}
 use Rattle.run_model.specs.declared.history.Event.{Event}
 use Rattle.run_model.specs.declared.step.Step.{Step}
@@ -27,43 +26,6 @@ use Rattle.roster.specs.Steps.{above}
 use Rattle.roster.specs.Tables.{IsKept, Table, added, all_added, begun_of, born_row, home_at, life_in, placed, row_at, said, table}
 use Rattle.roster.specs.declared.entry.Birth.{Birth}
 use Rattle.roster.specs.declared.entry.Row.{Row}
-
--- ---- what came under one name among others
-
-abbrev Brought : Type 0
-Brought = Name × Deps
-
-here_first : (ds : List Brought) (i : ℕ) (x : Brought) → i < length ds → x ≡ get_or ds i x → drop i ds ≡ x ∷ drop (suc i) ds
-here_first [] i x less is = absurd (omega arith)
-here_first (d ∷ ds) zero x less is = ap (λ y. y ∷ ds) (sym is)
-here_first (d ∷ ds) (suc i) x less is = here_first ds i x (omega arith) is
-
--- at the first entry of the action
-pub least_at : (ds : List Brought) (i : ℕ) (x : Brought) (a : Name) (h : ℕ) → i < length ds → x ≡ get_or ds i x → same_name x.0 a ≡ true
-    → least_of (sent_of (drop i ds)) a h ≡ tree.get x.1 h
-least_at ds i x a h less is same =
-    ap (λ l. least_of (sent_of l) a h) (here_first ds i x less is)
-    ∙ ap (λ b. cond b (beside (tree.entries x.1) h) (least_of (sent_of (drop (suc i) ds)) a h)) same
-    ∙ beside_get x.1 h
-
--- at the entry of another
-pub least_past : (ds : List Brought) (i : ℕ) (x : Brought) (a : Name) (h : ℕ) → i < length ds → x ≡ get_or ds i x → same_name x.0 a ≡ false
-    → least_of (sent_of (drop i ds)) a h ≡ least_of (sent_of (drop (i + 1) ds)) a h
-least_past ds i x a h less is differ =
-    let next : suc i ≡ i + 1 = omega arith in
-    ap (λ l. least_of (sent_of l) a h) (here_first ds i x less is)
-    ∙ ap (λ b. cond b (beside (tree.entries x.1) h) (least_of (sent_of (drop (suc i) ds)) a h)) differ
-    ∙ ap (λ n. least_of (sent_of (drop n ds)) a h) next
-
-drop_end : (ds : List Brought) (i : ℕ) → length ds ≤ i → drop i ds ≡ []
-drop_end [] zero h = refl
-drop_end [] (suc i) h = refl
-drop_end (d ∷ ds) zero h = absurd (omega arith)
-drop_end (d ∷ ds) (suc i) h = drop_end ds i (omega arith)
-
--- at the end
-pub least_end : (ds : List Brought) (i : ℕ) (a : Name) (h : ℕ) → length ds ≤ i → least_of (sent_of (drop i ds)) a h ≡ None
-least_end ds i a h past = ap (λ l. least_of (sent_of l) a h) (drop_end ds i past)
 
 -- ---- parents
 

@@ -9,7 +9,7 @@ use Rattle.places.specs.Placed.{place_in}
 use Rattle.run_model.specs.declared.history.Event.{Event}
 use Rattle.run_model.specs.declared.step.Step.{Step}
 use Rattle.run_model.specs.declared.step.Step.TheVariants.{Commit}
-use Rattle.run_model.specs.Actions.{home_in, maker_in, names_begun}
+use Rattle.run_model.specs.Actions.{begins, home_in, maker_in, names_begun}
 use Rattle.run_model.specs.LocalReadings.{least_of}
 use Rattle.guardian_laws.specs.Sent.{Sent}
 use Rattle.roster.specs.Steps.{above, closed_in, ended_in, turn_in}
@@ -77,6 +77,10 @@ pub record AreBegun (known : List Name) (e : Event) (came : Sent) (begun : List 
   pub named : AllByRecursion (λ (x : ℕ × Deps). IsName (get_or known x.0 [])) begun
   pub depends : AllByRecursion (λ (x : ℕ × Deps). (h : ℕ)
       → tree.get x.1 h ≡ least_of came (get_or known x.0 []) h) begun
+
+-- the event begins no action that it commits
+abbrev pub CommitsOld : Event → Type 0
+CommitsOld e = (a : Name) → e.step ≡ Commit a → begins e a ≡ false
 
 -- the event begins, ends and closes no action, and leaves the guardian as it stood
 pub record ConcernsNone (e : Event) : Type 0 where

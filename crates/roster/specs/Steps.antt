@@ -1,8 +1,8 @@
 -- What a step makes of actions at a guardian, and of the guardian.
-use Rattle.std.specs.Prelude.{if◌then◌else◌, Option, Some, None}
-use Rattle.action_names.specs.Names.{Name, is_top, parent_of}
+use Rattle.std.specs.Prelude.{Bool, false, if◌then◌else◌, Option, Some, None}
+use Rattle.action_names.specs.Names.{Name, is_top, parent_of, same_name}
 use Rattle.run_model.specs.declared.step.Step.{Step}
-use Rattle.run_model.specs.declared.step.Step.TheVariants.{Abort, Close, Commit, Crash, Decide, Recover}
+use Rattle.run_model.specs.declared.step.Step.TheVariants.{Abort, Close, Commit, Crash, Decide, Prepare, Recover}
 use Rattle.roster.specs.declared.entry.Turn.{Turn}
 use Rattle.roster.specs.declared.entry.Turn.TheVariants.{Crashes, Recovers, Stays}
 
@@ -18,6 +18,12 @@ abbrev pub closed_in : Step → Option Name
 closed_in (Commit a) = Some a
 closed_in (Close t) = Some t
 closed_in _ = None
+
+-- the step commits the action or prepares it
+abbrev pub tells_of : Step → Name → Bool
+tells_of (Commit b) a = same_name b a
+tells_of (Prepare h b) a = same_name b a
+tells_of _ a = false
 
 -- the parent of an action, if it has one
 abbrev pub above : Name → Option Name

@@ -106,9 +106,11 @@ impl Entry {
         }
     }
 
-    /// Makes it one in which nothing stands, and keeps its room.
-    pub(crate) fn clear(&mut self)
-        ensures { written_in self.new ≡ record nothing_made { birth = self.new.birth } }
+    /// Makes it one that makes this of the guardian and nothing of actions. It keeps its room.
+    pub(crate) fn reset(&mut self, turn: Turn)
+        ensures made { made_by self.new
+            ≡ record nothing_made { birth = self.new.birth; turn = turn } }
+        ensures maker { self.new.birth.maker ≡ None }
     {
         self.idle = false;
         self.ended = None;
@@ -116,7 +118,7 @@ impl Entry {
         self.merged = None;
         self.birth.maker = None;
         self.begun.clear();
-        self.turn = Turn::Stays;
+        self.turn = turn;
     }
 }
 

@@ -6,6 +6,7 @@
 //! roster it is.
 #![tactic(auto)]
 
+mod brought;
 mod entry;
 mod roster;
 

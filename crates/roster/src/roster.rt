@@ -1,17 +1,22 @@
 //! Actions by name, and how their guardian stands.
-ghost use Rattle.std.specs.Prelude.{◌≡◌, ◌+◌, ◌<◌, ◌^◌, [], ◌∷◌, ℕ, List, get_or, length, IfOk, OnOk, IsTrue, None, Some, vec_capacity, vec_len};
+ghost use Rattle.std.specs.Prelude.{◌≡◌, ◌+◌, ◌<◌, ◌^◌, [], ◌∷◌, ℕ, List, false, get_or, length, IfOk, OnOk, IsTrue, None, Some, true, vec_capacity, vec_len};
 ghost use Rattle.std.specs.FinMap as map;
 ghost use Rattle.std.specs.Option.{option_and_then, option_map};
 ghost use Rattle.action_names.specs.Deps.{lesser};
 ghost use Rattle.action_names.specs.Names.{Name};
 ghost use Rattle.places.specs.Placed.{AreMore, place_in};
-ghost use Rattle.run_model.specs.Actions.{crashes, home_in, is_begun, is_busy, is_done, is_down, is_gone, maker_in};
+ghost use Rattle.run_model.specs.declared.history.Event.{Event};
+ghost use Rattle.run_model.specs.Actions.{begins, crashes, home_in, is_begun, is_busy, is_done, is_down, is_gone, maker_in, names_begun};
 ghost use Rattle.run_model.specs.LocalReadings.{LocalEvent, dependency_here, events_here, is_at_home, least_of};
 ghost use Rattle.run_model.specs.Openings.{Held};
 ghost use Rattle.run_model.specs.Reopening.{life_before};
 ghost use Rattle.run_model.specs.StableContent.{Prepared};
+ghost use Rattle.run_model.specs.declared.step.Step.TheVariants.{Commit};
 ghost use Rattle.guardian_laws.specs.Actions.{AgreesOnActions};
+ghost use Rattle.layer_contracts.specs.Forests.{ForestState};
+ghost use Rattle.layer_contracts.specs.Messages.{is_turn, sent_by};
 
+use crate::brought::{came_of, known_of};
 use crate::entry::{Birth, Concerned, Entry, Row, Turn, concerns_none, turn_in};
 use layer_contracts::{Lineage, Sending};
 use places::{Places, Rows};
@@ -33,7 +38,6 @@ pub struct Roster {
 }
 
 impl Roster {
-    ghost use Rattle.guardian_laws.specs.Sent.{sent_of};
     ghost use Rattle.roster.specs.Entries.{FitsEntry, IsEntry};
     ghost use Rattle.roster.specs.Rosters.{IsRoster, crashes_of};
     ghost use Rattle.roster.specs.Tables.{table};
@@ -147,7 +151,7 @@ impl Roster {
 
     /// Copies what an event makes of the roster, with the dependencies that it brings, in place of what another made
     /// of it, and makes places and room. Whether or not there is memory for it, the roster is that of the same
-    /// history.
+    /// history. The entry is that of the event where this agrees with some history.
     pub fn plan<L: Lineage>(
         &mut self,
         places: &mut Places,
@@ -162,7 +166,9 @@ impl Roster {
             → IsRoster g here (table places.new self.new) }
         ensures crashes { crashes_of self.new ≡ crashes_of self.old }
         ensures fits { OnOk result (FitsEntry self.new entry.new) }
-        ensures planned { OnOk result ((f : ForestState) → L.is_of lineage.now f
+        ensures planned { OnOk result ((f : ForestState) (g : ℕ) (c : LocalEvent)
+            (here : List LocalEvent) → L.is_of lineage.now f → c.event ≡ event.now
+            → AgreesOnActions g c here
             → IsEntry (table places.new self.new) event.now
             (sent_by f event.now sending) entry.new) }
     {
@@ -188,16 +194,15 @@ impl Roster {
         Ok(())
     }
 
-    /// Writes what a crash or a recovery of the guardian makes of the roster into the entry.
+    /// Writes into the entry what a crash or a recovery of the guardian makes of the roster. This takes no memory.
     pub fn plan_turn(&self, event: &EventRef<'_>, entry: &mut Entry)
-        requires { IsTrue (is_turn event.now.step) }
+        requires turn { IsTrue (is_turn event.now.step) }
+        requires begins { names_begun event.now.answer ≡ [] }
         ensures fits { FitsEntry self.now entry.new }
         ensures planned { (names : List Name)
-            → names_begun event.now.answer ≡ []
             → IsEntry (table names self.now) event.now [] entry.new }
     {
-        entry.clear();
-        entry.turn = turn_in(event.step);
+        entry.reset(turn_in(event.step));
     }
 
     /// Enters an event for which there is room. This cannot fail.
@@ -222,8 +227,7 @@ impl Roster {
 }
 
 impl Roster {
-    ghost use Rattle.guardian_laws.specs.Sent.{sent_of};
-    ghost use Rattle.roster.specs.Entries.{AreBegun, CanCount, FitsBegun, HavePlaces, IsLeft, IsMerged};
+    ghost use Rattle.roster.specs.Entries.{AreBegun, CanCount, CommitsOld, FitsBegun, HavePlaces, IsLeft, IsMerged};
     ghost use Rattle.roster.specs.Steps.{above, closed_in, ended_in};
     ghost use Rattle.roster.specs.Rosters.{crashes_of};
     ghost use Rattle.roster.specs.Tables.{IsKept, added, all_added, begun_of, changed_at, ended, home_at, life_at, life_in, maker_left, merged, more_by};
@@ -344,7 +348,7 @@ impl Roster {
         sending: Sending,
     ) -> Result<Option<(usize, Deps)>, AllocError>
         ensures { IfOk result (λ merged. (f : ForestState) (e : Event) → L.is_of lineage.now f
-            → e.step ≡ step.now
+            → e.step ≡ step.now → CommitsOld e
             → IsMerged (table places.now self.now) step.now (sent_by f e sending) merged) }
     {
         match step {
@@ -361,7 +365,8 @@ impl Roster {
         sending: Sending,
     ) -> Result<Option<(usize, Deps)>, AllocError>
         ensures { IfOk result (λ left. (f : ForestState) (e : Event) → L.is_of lineage.now f
-            → e.step ≡ Commit action.now → IsLeft (table places.now self.now)
+            → e.step ≡ Commit action.now → begins e action.now ≡ false
+            → IsLeft (table places.now self.now)
             (placed (table places.now self.now) (above action.now))
             (λ h. least_of (sent_by f e sending) action.now h) left) }
     {
@@ -369,11 +374,7 @@ impl Roster {
         let Some(at) = place else {
             return Ok(None);
         };
-        let came = match sending {
-            Sending::OfKnown => lineage.depends(action),
-            Sending::Nothing | Sending::OfNew { .. } => None,
-        };
-        let depends = self.left_with(at, came)?;
+        let depends = self.left_with(at, came_of(lineage, sending, action))?;
         Ok(Some((at, depends)))
     }
 
@@ -393,17 +394,25 @@ impl Roster {
         ensures { IfOk result (λ depends. (h : ℕ) (names : List Name) → map.get depends h
             ≡ lesser (said (λ row. map.get row.depends h) None
             (row_at (table names self.now) (Some at)))
-            (option_and_then (λ depends. map.get depends.now h) came)) }
+            (option_and_then (λ depends. map.get depends.now h) came.entry)) }
     {
-        let mut depends = match self.row_at(Some(at)) {
-            Some(row) => row.depends.copy()?,
-            None => Deps::new(self.alloc),
-        };
+        let mut depends = self.depends_at(at)?;
         let Some(came) = came else {
             return Ok(depends);
         };
         depends.merge(came)?;
         Ok(depends)
+    }
+
+    // On what the action at the place depends, in a copy.
+    fn depends_at(&self, at: usize) -> Result<Deps, AllocError>
+        ensures { IfOk result (λ depends. (h : ℕ) (names : List Name) → map.get depends h
+            ≡ said (λ row. map.get row.depends h) None (row_at (table names self.now) (Some at))) }
+    {
+        match self.row_at(Some(at)) {
+            Some(row) => row.depends.copy(),
+            None => Ok(Deps::new(self.alloc)),
+        }
     }
 
     // Makes places for what the event begins, and room for its rows, and copies on what each depends.
@@ -427,22 +436,31 @@ impl Roster {
         self.rows.reserve(names.len())?;
         for name in names {
             let at = places.provide(name)?;
-            let depends = self.begun_with(name, lineage, sending)?;
+            let depends = self.begun_with(event, lineage, sending, name)?;
             begun.push((at, depends))?;
         }
         self.at.make_room(places.len())
     }
 
-    // TODO clauses: on what depends what begins under this name, as far as that comes.
+    // On what an action depends that the event begins, as far as that comes.
     fn begun_with<L: Lineage>(
         &self,
-        name: &Name,
+        event: &EventRef<'_>,
         lineage: &L,
         sending: Sending,
-    ) -> Result<Deps, AllocError> {
+        name: &Name,
+    ) -> Result<Deps, AllocError>
+        ensures { (f : ForestState) → L.is_of lineage.now f → begins event.now name.now ≡ true
+            → IfOk result (λ depends. (h : ℕ)
+            → map.get depends h ≡ least_of (sent_by f event.now sending) name.now h) }
+    {
         match sending {
+            Sending::Nothing => Ok(Deps::new(self.alloc)),
+            Sending::OfKnown => match known_of(lineage, event.step, name) {
+                Some(depends) => depends.copy(),
+                None => Ok(Deps::new(self.alloc)),
+            },
             Sending::OfNew { home, life } => lineage.new_dependencies(name, home, life),
-            Sending::Nothing | Sending::OfKnown => Ok(Deps::new(self.alloc)),
         }
     }
 
