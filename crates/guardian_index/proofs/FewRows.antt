@@ -1,7 +1,8 @@
 -- Rows in a vector: what becomes of them is said as of rows in a tree.
-use Rattle.std.proofs.Common.{◌≡◌, ℕ, ◌+◌, ◌<◌, ◌≤◌, Bool, true, false, cond, filter, get_or, take, List, [], ◌∷◌, length, refl, sym, ap, ◌∙◌, subst}
-use Rattle.std.specs.Prelude.{None, is_some}
+use Rattle.std.proofs.Common.{◌≡◌, ℕ, ◌+◌, ◌<◌, ◌≤◌, Bool, true, false, cond, not, ◌&&◌, filter, get_or, take, List, [], ◌∷◌, length, refl, sym, ap, ◌∙◌, subst}
+use Rattle.std.specs.Prelude.{Some, is_some}
 use Rattle.std.proofs.Math.ListN.{get_or-map}
+use Rattle.std.proofs.lemmas.Bool.{and_parts}
 use Rattle.std.proofs.lemmas.List.{length-map, take_all}
 use Rattle.std.specs.List.{AllByRecursion, insert}
 use Rattle.std.specs.List.Retain.{RetainsInTurn}
@@ -12,11 +13,11 @@ use Rattle.std.specs.declared.vec.Vec.{Vec}
 use Rattle.std.specs.BTreeMap.{is_at, insert_entry}
 use Rattle.std.specs.Map.{keys_of, lookup, remove_entry}
 use Rattle.std.specs.Map.Calls.{RetainsPairs}
-use Rattle.action_names.specs.Names.{Name, name_cmp}
+use Rattle.action_names.specs.Names.{Name, has_name, name_cmp, same_name}
 use Rattle.holders.specs.Places.{IsGapAt}
 use Rattle.holders.proofs.FewRows.{inserted_next}
-use Rattle.holders.proofs.Places.{insert_gap, remove_gap, sorted_in, sorted_none, sorted_out}
-use Rattle.holders.proofs.Rows.{has_row}
+use Rattle.holders.proofs.Places.{insert_gap, sorted_in, sorted_none, sorted_out}
+use Rattle.holders.proofs.Rows.{has_row, room_out}
 use Rattle.holders.proofs.Sorted.{StandBehind}
 use Rattle.guardian_index.specs.Held.{Row, Rows, IsRising, row_of, rows_in, IsOrderly}
 use Rattle.guardian_index.proofs.Numbers.{no_numbers}
@@ -40,9 +41,14 @@ module _ {Z : Type 0} where
   orderly_less es new a o is =
       orderly_out es new a o is (subst (λ (rs : List (Name × Vec ℕ Z)). IsStrictlySortedBy name_cmp (keys_of rs)) (sym is) (sorted_out (is_at (name_cmp a)) es o.names))
 
-  -- one without a row has none that could be taken out
-  pub none_out : (es new : List (Name × Vec ℕ Z)) (a : Name) → None ≡ lookup (is_at (name_cmp a)) es → new ≡ remove_entry (is_at (name_cmp a)) es → new ≡ es
-  none_out es new a none is = is ∙ sym (remove_gap es a (sym (has_row a es) ∙ ap is_some (sym none)))
+  -- who has a row then had it before
+  pub had_row : (s : Rows) (es new : List (Name × Vec ℕ Z)) (a b : Name) (w : Vec ℕ Z) → rows_in es ≡ s → IsOrderly es → new ≡ remove_entry (is_at (name_cmp a)) es
+      → Some w ≡ lookup (is_at (name_cmp b)) new → has_name (keys_of s) b ≡ true
+  had_row s es new a b w e o is q =
+      let has : has_name (keys_of new) b ≡ true = sym (has_row b new) ∙ ap is_some (sym q) in
+      let gone : has_name (keys_of new) b ≡ not (same_name a b) && has_name (keys_of es) b =
+      ap (λ (rs : List (Name × Vec ℕ Z)). has_name (keys_of rs) b) is ∙ room_out a b es o.names in
+      ap (λ (rs : Rows). has_name (keys_of rs) b) (sym e) ∙ ap (λ ns. has_name ns b) (keys_shown es) ∙ (and_parts _ _ (sym gone ∙ has)).1
 
   -- ---- a new row
   -- it stands in the gap that was found for it

@@ -135,7 +135,7 @@ impl HeldObjects {
     }
 
     /// Makes room for all that the holder and its descendants have. What is held stays, and so does all room. It
-    /// looks at their rows and one more. If memory runs out, nothing is changed.
+    /// looks at their rows and one more. If memory runs out, all rows stay.
     pub fn make_room_below(&mut self, holder: &Name) -> Result<(), AllocError>
         ensures held { (b : Name) → objects_at self.new.rows b ≡ objects_at self.old.rows b }
         ensures room { OnOk result (HasRoomBelow self.new.rows holder.now) }

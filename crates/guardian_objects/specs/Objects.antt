@@ -16,7 +16,7 @@ use Rattle.object_laws.specs.Shown.{Shows}
 use Rattle.atomic_object.specs.Kept.{Kept, seen}
 use Rattle.guardian_index.specs.Held.{Index, Rows, has_object}
 
--- the objects of a guardian in order, and who holds something at which
+-- the objects of a guardian in order, who holds something at which, and whether a holder's row can be given to another
 pub record Indexed : Type 0 where
   pub guardian : ℕ
   pub objects : List Kept

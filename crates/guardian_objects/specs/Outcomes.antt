@@ -33,9 +33,8 @@ abbrev pub is_alone : {X : Type 0} → List X → Bool
 is_alone xs = length xs == 1
 
 -- There is room in the index for what the action hands on: where it is told alone, for what it has, if the next holder
--- needs room for that. Of several that
--- are told together one may hand on what another handed to it; then there is room for all that the next holder and
--- its descendants have.
+-- needs room for that. Of several that are told together one may hand on what another handed to it; then there is room
+-- for all that the next holder and its descendants have.
 abbrev pub HasIndexRoom : Bool → Indexed → Name → Name → Type 0
 HasIndexRoom true o a h = MayBeHanded (index_of o) h a
 HasIndexRoom false o a h = HasRoomBelow o.held h

@@ -1,7 +1,7 @@
 use Rattle.std.proofs.Common.{[], arith, length, not, refl, subst, sym, ◌&&◌, ◌∙◌, ◌≡◌, ◌||◌, true, ap}
 use Rattle.std.specs.Option.{IfSome}
 use Rattle.std.proofs.lemmas.List.{nil_from_length}
-use Rattle.action_names.specs.Names.{is_proper_ancestor, same_name}
+use Rattle.action_names.specs.Names.{same_name}
 use Rattle.guardian_index.specs.Held.{HasRoomBelow, MayBeHanded, has_object, is_name_of}
 use Rattle.guardian_objects.specs.Objects.{index_of}
 use Rattle.guardian_objects.specs.Turns.{AreChanged, Commits}
