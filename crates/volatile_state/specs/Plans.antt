@@ -35,13 +35,12 @@ pub record FitsMessage (p : Plan) (m : InMemory) : Type 0 where
 
 -- The copies are of what the message brings beside dependencies, with these outcomes in place of its own.
 pub record HasMessage (p : Plan) (m : InMemory) (g : GuardianState) (message : Message)
-    (outcomes : List (Name × Bool)) : Type 0 where
+    (news : List (Name × Bool)) : Type 0 where
   pub sender : p.sender ≡ message.sender
-  pub brought : p.outcomes.items ≡ outcomes
-  pub heard : IsHeard m.places m.told outcomes p.heard
-  pub lesson : IsLesson message.sender message.life message.aborts message.counts.items outcomes
-      p.lesson
-  pub outcomes : outcomes_of p.planned.tellings.items ≡ outcomes
+  pub brought : p.outcomes.items ≡ news
+  pub heard : IsHeard m.places m.told news p.heard
+  pub lesson : IsLesson message.sender message.life message.aborts message.counts.items news p.lesson
+  pub outcomes : outcomes_of p.planned.tellings.items ≡ news
   pub planned : ArePlanned g.past p.planned.tellings.items
 
 -- The news may come next, and the copies are of it.

@@ -56,8 +56,8 @@ returns-clause-planned c = λ s at.
       brought = refl;
       heard = subst (λ l. IsHeard c.plan-2.new.places c.plan-2.new.self l c.plan-2.new.heard) c.as_slice-outcomes.ensures.value c.in_ok-plan-2.ensures.heard;
       lesson =
-          subst (λ l. IsLesson message.sender message.life message.aborts l outcomes c.plan_lesson.new.lesson) c.as_slice-counts.ensures.value
-          (subst (λ l. IsLesson message.sender message.life message.aborts c.as_slice-counts.result.now l c.plan_lesson.new.lesson)
+          subst (λ l. IsLesson message.sender message.life message.aborts l outcomes c.plan_lesson.new.lesson) c.as_slice.ensures.value
+          (subst (λ l. IsLesson message.sender message.life message.aborts c.as_slice.result.now l c.plan_lesson.new.lesson)
           c.as_slice-outcomes.ensures.value c.in_ok-plan_lesson.ensures.news);
       outcomes = c.in_ok-plan.ensures.outcomes ∙ c.as_slice-outcomes.ensures.value;
       planned = c.in_ok-plan.ensures.planned s.number s.past (inside c.self.view_is at).tellings;
