@@ -27,6 +27,7 @@ use denote.Ref.{NamedLft}
 use Rattle.locked_run.specs.declared.shared.OfRun as run
 use Rattle.layer_contracts.specs.declared.forest.Forest as forest
 use Rattle.layer_contracts.specs.declared.guardian.Guardian as guardian
+use Rattle.layer_contracts.specs.declared.lineage.Lineage as lineage
 use Rattle.runtime.proofs.runtime.Runtime.TheSendSync as runtime
 use Rattle.run_model.proofs.opening.Opening.TheSendSync as opening
 use Rattle.values.proofs.content.Content.TheSendSync as content
@@ -142,11 +143,11 @@ module _ (K S : RattleType) (k : run.Ghosts K.Denot) (s : of_script.Ghosts S.Den
   pub order_send : IsSend (Order.the_field K S k s).row
   order_send = search (handed_send, sendable, crosses) depth 60 fits 50000
 
-  module _ (ℓ : NamedLft) (R G P H : RattleType) (r : forest.Ghosts R.Denot) (g : guardian.Ghosts G.Denot) where
-    pub over_sync : IsSend R → IsSend G → IsSync P → IsSync H → IsSync (OverRuntime.the_field ℓ K S R G P H k s r g).row
+  module _ (ℓ : NamedLft) (R G P H : RattleType) (r : forest.Ghosts R.Denot) (l : lineage.Ghosts R.Denot) (g : guardian.Ghosts G.Denot) where
+    pub over_sync : IsSend R → IsSend G → IsSync P → IsSync H → IsSync (OverRuntime.the_field ℓ K S R G P H k s r l g).row
     over_sync sr sg sp sh = search (order_send, runtime.the_sync, opening.the_sync, sender.the_sync, watch.the_sync, sendable, crosses) depth 60 fits 50000
 
-    pub over_row_sync : IsSend R → IsSend G → IsSync P → IsSync H → IsSync (OverRuntime.the_row ℓ K S R G P H k s r g)
+    pub over_row_sync : IsSend R → IsSend G → IsSync P → IsSync H → IsSync (OverRuntime.the_row ℓ K S R G P H k s r l g)
     over_row_sync sr sg sp sh = search (order_send, runtime.the_sync, opening.the_sync, sender.the_sync, watch.the_sync, sendable, crosses) depth 60 fits 50000
 
 module _ (K S : RattleType) (k : run.Ghosts K.Denot) (s : of_script.Ghosts S.Denot) (send : IsSend S) where

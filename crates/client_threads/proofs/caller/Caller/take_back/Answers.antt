@@ -3,9 +3,12 @@ use Rattle.std.proofs.lemmas.List.{length_push}
 use Rattle.std.proofs.lemmas.Option.{slice_get_read}
 use Rattle.action_names.specs.Names.{same_name}
 use Rattle.activities.specs.Apart.{ended_name, ended_names}
-use Rattle.activities.proofs.Making.{makes_through}
+use Rattle.activities.proofs.Making.{makes_nowhere, makes_through}
 use Rattle.client_threads.proofs.Running.{ended_more, learned, named_there, one_of_names}
 use Rattle.client_threads.proofs.caller.Caller.take_back.Goals as goal
+
+pub returns-in_err-ended-clause-makes : goal.returns-in_err-ended-clause-makes
+returns-in_err-ended-clause-makes g c = makes_nowhere _ _ _
 
 pub push_reserved-requires : goal.push_reserved-requires
 push_reserved-requires g c =
